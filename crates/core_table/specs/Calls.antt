@@ -16,14 +16,15 @@ use Rattle.table_rule.specs.declared.view.HoldView.{HoldView}
 use Rattle.table_rule.specs.declared.view.View.{View}
 use Rattle.table_rule.specs.Words.{flag_at, count_at, tick_at, stop_at, node_at, mark_at, value_at, progress_code}
 use Rattle.table_rule.specs.Shows.{job_of, room_of, reserved, record_in, among}
-use Rattle.table_rule.specs.Batches.{IsPublishDue, IsReleaseDue}
+use Rattle.table_rule.specs.Batches.{IsLookDue, IsPublishDue, IsReleaseDue}
 use Rattle.table_rule.specs.Tasks.{TaskHere, progress_after, job_seen}
 use Rattle.table_rule.specs.DueActs.{IsKeepDue, IsPostDue}
 use Rattle.table_rule.specs.Plays as plays
 use Rattle.table_rule.specs.Plays.{SeatState}
-use Rattle.table_rule.specs.Steps.{Steps, IsEvent, Stutters, TryMakes, ArrivalMakes, LeaveMakes}
+use Rattle.table_rule.specs.Steps.{StepRefines, MakesEvent, Stutters, TryMakes, ArrivalMakes, MakesLeave, SplitStutters}
 
--- the view is one of worker k's pass at a table of this setting, after it has enrolled, with a task that such a pass has
+-- the view is one of worker k's pass at a table of this setting, after it has enrolled, with a task that such a pass
+-- has
 pub record IsViewOf (key : Setting) (k : ℕ) (v : View) : Type 0 where
   pub worker : v.own.worker ≡ k
   pub to : v.to ≡ k + 1
@@ -39,84 +40,95 @@ pub record IsViewOf (key : Setting) (k : ℕ) (v : View) : Type 0 where
 pub record EachCallRefines (key : Setting) (slots id k : ℕ) (v : View) (xs : List (ℕ × Slot)) : Type 0 where
   -- the job side: a claim is the event `Claim` if it finds the node ready (1), else a stutter
   pub claim : (n : ℕ) → n < (job_of key).plan.count → v.own.task ≡ Idle → v.own.call ≢ Out
-      → Steps (job_of key) (room_of key) slots id (v, xs) (node_at key.workers n) (λ y. either (eqb y 1) 2 y)
-      (plays.claimed (step slots (node_at key.workers n) 1 2 none) (v, xs)) (TryMakes 1 (IsEvent (job_of key) k (Claim n)))
-  -- a claim past the last node is a stutter; its step on word 0 names the number
+      → StepRefines (job_of key) (room_of key) slots id (v, xs) (node_at key.workers n) (λ y. either (eqb y 1) 2 y)
+      (plays.claimed (step slots (node_at key.workers n) 1 2 none) (v, xs)) (TryMakes 1 (MakesEvent (job_of key) k (Claim n)))
+  -- A claim past the last node is a stutter. Its step looks for 4 more than the number in word 0, which is the status
+  -- of worker 0: it never finds that, for a status is at most 3.
   pub claim_past_the_last : (n : ℕ) → (job_of key).plan.count ≤ n → 0 < key.workers
-      → Steps (job_of key) (room_of key) slots id (v, xs) 0 (λ y. either (eqb y (4 + n)) 0 y)
+      → StepRefines (job_of key) (room_of key) slots id (v, xs) 0 (λ y. either (eqb y (4 + n)) 0 y)
       (plays.strayed (step slots 0 (4 + n) 0 none) (v, xs)) Stutters
   -- a tick starts or ends the task's leaf
   pub start : (n leaf : ℕ) → next_act (job_of key) v.own.task v.own.call ≡ Some (acts.Start n leaf) → v.own.call ≢ Out
-      → Steps (job_of key) (room_of key) slots id (v, xs) (tick_at key.workers) (λ y. (y + 1) % 2 ^ 64)
-      (plays.drawn (step slots (tick_at key.workers) 1 0 none) (v, xs)) (λ before found after. IsEvent (job_of key) k (Start n) before after)
+      → StepRefines (job_of key) (room_of key) slots id (v, xs) (tick_at key.workers) (λ y. (y + 1) % 2 ^ 64)
+      (plays.drawn (step slots (tick_at key.workers) 1 0 none) (v, xs)) (MakesEvent (job_of key) k (Start n))
   pub end : (n start : ℕ) → next_act (job_of key) v.own.task v.own.call ≡ Some (acts.End n start) → v.own.call ≢ Out
-      → Steps (job_of key) (room_of key) slots id (v, xs) (tick_at key.workers) (λ y. (y + 1) % 2 ^ 64)
-      (plays.drawn (step slots (tick_at key.workers) 1 0 none) (v, xs)) (λ before found after. IsEvent (job_of key) k (End n start) before after)
+      → StepRefines (job_of key) (room_of key) slots id (v, xs) (tick_at key.workers) (λ y. (y + 1) % 2 ^ 64)
+      (plays.drawn (step slots (tick_at key.workers) 1 0 none) (v, xs)) (MakesEvent (job_of key) k (End n start))
   -- an open makes a node ready, by one of the four events that open a side
   pub open_side : (n : ℕ) (task : Task) (event : Event) → next_act (job_of key) v.own.task v.own.call ≡ Some (acts.Open n task event) → v.own.call ≢ Out
-      → Steps (job_of key) (room_of key) slots id (v, xs) (node_at key.workers n) (λ y. 1)
-      (λ y. plays.opened (step slots (node_at key.workers n) 1 0 none) (v, xs) 1) (λ before found after. IsEvent (job_of key) k event before after)
+      → StepRefines (job_of key) (room_of key) slots id (v, xs) (node_at key.workers n) (λ y. 1)
+      (λ y. plays.opened (step slots (node_at key.workers n) 1 0 none) (v, xs) 1) (MakesEvent (job_of key) k event)
   -- a keep of the value that is due
   pub keep : (n start x : ℕ) → v.own.task ≡ Started n start → IsKeepDue (next_act (job_of key) v.own.task v.own.call) x → v.own.call ≢ Out
-      → Steps (job_of key) (room_of key) slots id (v, xs) (value_at key.workers (job_of key).plan.count n) (λ y. x)
+      → StepRefines (job_of key) (room_of key) slots id (v, xs) (value_at key.workers (job_of key).plan.count n) (λ y. x)
       (λ y. plays.kept (step slots (value_at key.workers (job_of key).plan.count n) x 0 none) (v, xs) x)
-      (λ before found after. IsEvent (job_of key) k (Keep n start x) before after)
+      (MakesEvent (job_of key) k (Keep n start x))
   -- a finish marks a leaf or a block as done, by one of the three events that finish a node
   pub finish : (n : ℕ) (event : Event) → next_act (job_of key) v.own.task v.own.call ≡ Some (acts.Finish n event) → v.own.call ≢ Out
-      → Steps (job_of key) (room_of key) slots id (v, xs) (node_at key.workers n) (λ y. progress_code (progress_after k v.own.task))
+      → StepRefines (job_of key) (room_of key) slots id (v, xs) (node_at key.workers n) (λ y. progress_code (progress_after k v.own.task))
       (λ y. plays.finished (step slots (node_at key.workers n) (progress_code (progress_after k v.own.task)) 0 none) (v, xs) (progress_code (progress_after k v.own.task)))
-      (λ before found after. IsEvent (job_of key) k event before after)
+      (MakesEvent (job_of key) k event)
   -- an arrival is the first if it finds the mark at 0, else the second
   pub arrive : (p l r n : ℕ) → next_act (job_of key) v.own.task v.own.call ≡ Some (acts.Arrive p l r n) → v.own.call ≢ Out
-      → Steps (job_of key) (room_of key) slots id (v, xs) (mark_at key.workers (job_of key).plan.count p) (λ y. (y + 1) % 2 ^ 64)
+      → StepRefines (job_of key) (room_of key) slots id (v, xs) (mark_at key.workers (job_of key).plan.count p) (λ y. (y + 1) % 2 ^ 64)
       (plays.arrived (step slots (mark_at key.workers (job_of key).plan.count p) 1 0 none) (v, xs))
-      (ArrivalMakes (IsEvent (job_of key) k (ArriveFirst p l r n)) (IsEvent (job_of key) k (ArriveSecond p l r n)))
+      (ArrivalMakes (MakesEvent (job_of key) k (ArriveFirst p l r n)) (MakesEvent (job_of key) k (ArriveSecond p l r n)))
   -- the gate: a post returns the record slot to the table, with the call in it
   pub post : (n start : ℕ) (call : OpRecord) → v.own.task ≡ Started n start → IsPostDue (job_of key).source v.own.told (next_act (job_of key) v.own.task v.own.call) call
-      → Steps (job_of key) (room_of key) slots id (v, (k, Slots.Record call) ∷ xs) k (λ y. 1)
-      (λ y. plays.posted (step slots k 1 0 none) (v, (k, Slots.Record call) ∷ xs) 1) (λ before found after. IsEvent (job_of key) k (Post n start) before after)
+      → StepRefines (job_of key) (room_of key) slots id (v, (k, Slots.Record call) ∷ xs) k (λ y. 1)
+      (λ y. plays.posted (step slots k 1 0 none) (v, (k, Slots.Record call) ∷ xs) 1) (MakesEvent (job_of key) k (Post n start))
   -- a win is an event if it finds the flag free (0), else a stutter
   pub win : v.own.call ≡ Out
-      → Steps (job_of key) (room_of key) slots id (v, xs) (flag_at key.workers) (λ y. either (eqb y 0) (k + 1) y)
-      (plays.won (step slots (flag_at key.workers) 0 (k + 1) none) (v, xs)) (TryMakes 0 (IsEvent (job_of key) k Win))
+      → StepRefines (job_of key) (room_of key) slots id (v, xs) (flag_at key.workers) (λ y. either (eqb y 0) (k + 1) y)
+      (plays.won (step slots (flag_at key.workers) 0 (k + 1) none) (v, xs)) (TryMakes 0 (MakesEvent (job_of key) k Win))
   -- a look at a worker is the event `Take`, whether or not it takes a call
-  pub take : (h : HoldView) (u : ℕ) → v.own.hold ≡ Some h → u ≡ h.looks → u < key.workers
-      → Steps (job_of key) (room_of key) slots id (v, xs) u (λ y. either (eqb y 1) 2 y)
-      (plays.took (step slots u 1 2 none) (v, xs)) (λ before found after. IsEvent (job_of key) k (Take u) before after)
-  pub publish : (h : HoldView) (batch : List Entry) → v.own.hold ≡ Some h → IsPublishDue key.workers h batch → length h.book < 2 ^ 32
-      → Steps (job_of key) (room_of key) slots id (v, (count_at key.workers, Slots.Book (reserved (h.book ++ batch ∷ []) (room_of key))) ∷ xs) (count_at key.workers) (λ y. (y + 1) % 2 ^ 64)
+  pub take : (h : HoldView) (u : ℕ) → v.own.hold ≡ Some h → IsLookDue key.workers u h
+      → StepRefines (job_of key) (room_of key) slots id (v, xs) u (λ y. either (eqb y 1) 2 y)
+      (plays.took (step slots u 1 2 none) (v, xs)) (MakesEvent (job_of key) k (Take u))
+  -- a publish returns the book to the table, with the batch, and counts it
+  pub publish : (h : HoldView) (batch : List Entry) → v.own.hold ≡ Some h → IsPublishDue key.workers h batch
+      → StepRefines (job_of key) (room_of key) slots id (v, (count_at key.workers, Slots.Book (reserved (h.book ++ batch ∷ []) (room_of key))) ∷ xs) (count_at key.workers) (λ y. (y + 1) % 2 ^ 64)
       (plays.published (step slots (count_at key.workers) 1 0 none) (v, (count_at key.workers, Slots.Book (reserved (h.book ++ batch ∷ []) (room_of key))) ∷ xs))
-      (λ before found after. IsEvent (job_of key) k Publish before after)
-  pub answer : (h : HoldView) (u : ℕ) (call : OpRecord) (r : Receipt) → v.own.hold ≡ Some h → u < key.workers → h.published ≡ true
+      (MakesEvent (job_of key) k Publish)
+  -- an answer returns a taken worker's record slot to the table, with its receipt
+  pub answer : (h : HoldView) (u : ℕ) (call : OpRecord) (r : Receipt) → v.own.hold ≡ Some h → h.published ≡ true
       → record_in h.taken u ≡ Some call → among h.answered u ≡ false → IsReceipt (place_of h.book call.leaf) r
-      → Steps (job_of key) (room_of key) slots id (v, (u, Slots.Receipt r) ∷ xs) u (λ y. 3)
-      (λ y. plays.answered (step slots u 3 0 none) (v, (u, Slots.Receipt r) ∷ xs) 3) (λ before found after. IsEvent (job_of key) k (Answer u r) before after)
+      → StepRefines (job_of key) (room_of key) slots id (v, (u, Slots.Receipt r) ∷ xs) u (λ y. 3)
+      (λ y. plays.answered (step slots u 3 0 none) (v, (u, Slots.Receipt r) ∷ xs) 3) (MakesEvent (job_of key) k (Answer u r))
   -- a release returns the shop after a publish, and the shop and the book if nothing was published
   pub release : (h : HoldView) → v.own.hold ≡ Some h → IsReleaseDue key.workers h → h.published ≡ true
-      → Steps (job_of key) (room_of key) slots id (v, (flag_at key.workers, Slots.Shop h.book) ∷ xs) (flag_at key.workers) (λ y. 0)
+      → StepRefines (job_of key) (room_of key) slots id (v, (flag_at key.workers, Slots.Shop h.book) ∷ xs) (flag_at key.workers) (λ y. 0)
       (λ y. plays.released_shop (step slots (flag_at key.workers) 0 0 none) (v, (flag_at key.workers, Slots.Shop h.book) ∷ xs) 0)
-      (λ before found after. IsEvent (job_of key) k Release before after)
+      (MakesEvent (job_of key) k Release)
   pub release_unserved : (h : HoldView) → v.own.hold ≡ Some h → IsReleaseDue key.workers h
-      → Steps (job_of key) (room_of key) slots id
+      → StepRefines (job_of key) (room_of key) slots id
       (v, (flag_at key.workers, Slots.Shop h.book) ∷ (flag_at key.workers + 1, Slots.Book (reserved h.book (room_of key))) ∷ xs) (flag_at key.workers) (λ y. 0)
       (λ y. plays.released_both (step slots (flag_at key.workers) 0 0 none)
       (v, (flag_at key.workers, Slots.Shop h.book) ∷ (flag_at key.workers + 1, Slots.Book (reserved h.book (room_of key))) ∷ xs) 0)
-      (λ before found after. IsEvent (job_of key) k Release before after)
+      (MakesEvent (job_of key) k Release)
   -- a leave is an event if it finds its own status served (3), else a stutter
   pub leave : v.own.call ≡ Out → v.own.hold ≡ None
-      → Steps (job_of key) (room_of key) slots id (v, xs) k (λ y. either (eqb y 3) 0 y)
-      (plays.left (step slots k 3 0 none) (v, xs)) (TryMakes 3 (LeaveMakes (job_of key) k))
+      → StepRefines (job_of key) (room_of key) slots id (v, xs) k (λ y. either (eqb y 3) 0 y)
+      (plays.left (step slots k 3 0 none) (v, xs)) (TryMakes 3 (MakesLeave (job_of key) k))
   -- the looks, the stop and the look before a publish are stutters
-  pub root_done : Steps (job_of key) (room_of key) slots id (v, xs) (node_at key.workers 0) (λ y. y)
+  pub root_done : StepRefines (job_of key) (room_of key) slots id (v, xs) (node_at key.workers 0) (λ y. y)
       (plays.looked_at_root (step slots (node_at key.workers 0) 0 0 none) (v, xs)) Stutters
-  pub since : Steps (job_of key) (room_of key) slots id (v, xs) (count_at key.workers) (λ y. y)
+  pub since : StepRefines (job_of key) (room_of key) slots id (v, xs) (count_at key.workers) (λ y. y)
       (plays.heard (step slots (count_at key.workers) 0 0 none) (v, xs)) Stutters
-  pub stop : Steps (job_of key) (room_of key) slots id (v, xs) (stop_at key.workers) (λ y. 1)
+  pub stop : StepRefines (job_of key) (room_of key) slots id (v, xs) (stop_at key.workers) (λ y. 1)
       (λ y. plays.stopped_all (step slots (stop_at key.workers) 1 0 none) (v, xs) 1) Stutters
-  pub stopped : Steps (job_of key) (room_of key) slots id (v, xs) (stop_at key.workers) (λ y. y)
+  pub stopped : StepRefines (job_of key) (room_of key) slots id (v, xs) (stop_at key.workers) (λ y. y)
       (plays.looked_at_stop (step slots (stop_at key.workers) 0 0 none) (v, xs)) Stutters
   pub source_value : (n start leaf source : ℕ) (op : Op) → next_act (job_of key) v.own.task v.own.call ≡ Some (acts.Call n start leaf op) → (job_of key).source leaf ≡ Some source
-      → Steps (job_of key) (room_of key) slots id (v, xs) (value_at key.workers (job_of key).plan.count ((job_of key).plan.node_of source)) (λ y. y)
+      → StepRefines (job_of key) (room_of key) slots id (v, xs) (value_at key.workers (job_of key).plan.count ((job_of key).plan.node_of source)) (λ y. y)
       (plays.looked_at_value (step slots (value_at key.workers (job_of key).plan.count ((job_of key).plan.node_of source)) 0 0 none) (v, xs)) Stutters
-  pub admit : Steps (job_of key) (room_of key) slots id (v, xs) (count_at key.workers) (λ y. y)
+  pub admit : StepRefines (job_of key) (room_of key) slots id (v, xs) (count_at key.workers) (λ y. y)
       (plays.admitted (step slots (count_at key.workers) 0 0 none) (v, xs)) Stutters
+
+-- The two steps that make a pass, from a view of any seat. Both are stutters. A split gives the lowest worker number of
+-- the seat to a new seat. An enrolment, the first step of a pass, takes its worker's record slot, at a look at any
+-- word.
+pub record MakingStutters (key : Setting) (slots id : ℕ) (v : View) (xs : List (ℕ × Slot)) : Type 0 where
+  pub split : v.own.worker < v.to → SplitStutters (job_of key) (room_of key) id v
+  pub enrol : (word : ℕ) → v.to ≡ v.own.worker + 1 → v.enrolled ≡ false
+      → StepRefines (job_of key) (room_of key) slots id (v, xs) word (λ y. y) (plays.enrolled (step slots word 0 0 none) (v, xs)) Stutters

@@ -10,7 +10,7 @@ ghost use Rattle.table_rule.specs.DueActs.{IsPostDue};
 ghost use Rattle.table_rule.specs.Shows.{record_in, among, entry_of, IsFront};
 ghost use Rattle.core_model.specs.Entries.{StandsAt};
 ghost use Rattle.core_table.specs.Passes.{IsPassOf, job_in, next_in, pass_view, view, IsTrapped};
-ghost use Rattle.table_rule.specs.Batches.{IsPublishDue, IsReleaseDue};
+ghost use Rattle.table_rule.specs.Batches.{IsLookDue, IsPublishDue, IsReleaseDue};
 ghost use Rattle.table_rule.specs.Passes.{call_by, winning, losing, leaving, staying, releasing, taking, passing, publishing, answering};
 ghost use Rattle.table_rule.specs.Views.{with_step, with_found, with_post};
 ghost use Rattle.table_rule.specs.Plays.{IsNewCall};
@@ -109,8 +109,8 @@ impl CoreTable {
     /// hold's book. `Err` is the status word found.
     pub fn take(&self, pass: &mut Pass, u: u32) -> Result<OpRecord, u64>
         requires pass { IsPassOf self.now pass.old }
-        requires low { u < (job_in self.now).workers }
-        requires next { (h : HoldView) × ((view pass.old).own.hold ≡ Some h) × (u ≡ h.looks) }
+        requires due { (h : HoldView) × ((view pass.old).own.hold ≡ Some h)
+            × IsLookDue (job_in self.now).workers u h }
         ensures pass { IsPassOf self.now pass.new }
         ensures took { IfOk result (λ call.
             (h : HoldView) × ((view pass.old).own.hold ≡ Some h)
@@ -160,7 +160,6 @@ impl CoreTable {
     /// Hands worker `u` its receipt. The owed workers may be answered in any order.
     pub fn answer(&self, pass: &mut Pass, u: u32, receipt: Receipt)
         requires pass { IsPassOf self.now pass.old }
-        requires low { u < (job_in self.now).workers }
         requires due { (h : HoldView) × (call : CallRecord) × ((view pass.old).own.hold ≡ Some h)
             × (h.published ≡ true) × (record_in h.taken u ≡ Some call) × (among h.answered u ≡ false)
             × IsReceipt (place_of h.book call.leaf) receipt }

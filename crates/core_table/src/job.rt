@@ -1,5 +1,5 @@
-//! The job side (claim, tick, open, source value, keep, finish, arrive), and the calls on the root, batch count and stop
-//! word.
+//! The job side (claim, tick, open, source value, keep, finish, arrive), and the calls on the root, batch count and
+//! stop word.
 ghost use Rattle.std.specs.Prelude.{◌≡◌, ◌≢◌, ℕ, ◌+◌, ◌%◌, ◌<◌, ◌≤◌, ◌∷◌, Some, IsTrue, IsFalse, IsNone};
 ghost use Rattle.core_model.specs.declared.next.Next.TheVariants as acts;
 ghost use Rattle.core_model.specs.Events.{task_after as next_task};

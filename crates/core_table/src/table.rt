@@ -14,13 +14,13 @@ use seq_objects::Act;
 use sp_order::PlannedJob;
 use std::alloc::Global;
 use table_rule::laws::laws_hold;
-use table_rule::plays::Law;
+use table_rule::plays::SchedulerRule;
 use table_rule::{Layout, Slot, View};
 
 /// The running table: the core's state as atomic words and slots that all passes share.
 #[derive(Drop)]
 pub struct CoreTable {
-    pub(crate) table: Table<Slot, View, Setting, Law, Global>,
+    pub(crate) table: Table<Slot, View, Setting, SchedulerRule, Global>,
     pub(crate) setting: Setting,
     pub(crate) nodes: u32,
     ghost key: { (table.shared.key ≡ setting) × (nodes ≡ (job_of setting).plan.count) },

@@ -1,5 +1,5 @@
--- When a publish and a release are due: which batch serves the calls that a hold has taken.
-use Rattle.std.specs.Prelude.{ℕ, ◌≡◌, true, false, Some, List, map, Contains}
+-- When a look at a worker, a publish and a release are due: which batch serves the calls that a hold has taken.
+use Rattle.std.specs.Prelude.{ℕ, ◌≡◌, ◌<◌, true, false, Some, List, map, Contains}
 use Rattle.std.specs.List.{AllByRecursion}
 use Rattle.seq_objects.specs.Stores.{opening_store}
 use Rattle.batch_history.specs.declared.batch.Entry.{Entry}
@@ -20,6 +20,10 @@ pub record ServesTaken (h : HoldView) (batch : List Entry) : Type 0 where
   pub only : AllByRecursion (λ entry. record_in h.taken entry.worker ≡ Some (call_of entry)) batch
   pub each : (w : ℕ) → took_in h.taken w ≡ true → Contains (map (λ entry. entry.worker) batch) w
   pub replies : IsLegalFrom (served opening_store (flat h.book)) batch
+
+-- A look at worker u is due: the hold has looked at all workers before it, and there is such a worker.
+abbrev pub IsLookDue : ℕ → ℕ → HoldView → Type 0
+IsLookDue workers u h = (u ≡ h.looks) × (u < workers)
 
 -- A publish of this batch is due: the hold has looked at all workers, has taken at least one call, has not published,
 -- and the batch serves exactly the calls that it took.

@@ -1,4 +1,5 @@
--- The types and variants of `core_model` that the table's rules use, exported again under one name.
+-- The types and variants of `core_model` that the table's rules use, exported again under one name. `core_model` has the
+-- same list in its `Words.antt`; but no other crate can name a type that a crate declares through a re-export of its own.
 pub use Rattle.core_model.specs.declared.progress.Progress.{Progress}
 pub use Rattle.core_model.specs.declared.progress.Progress.TheVariants.{Waiting, Ready, Taken, Done, Ran}
 pub use Rattle.core_model.specs.declared.task.Task.{Task}

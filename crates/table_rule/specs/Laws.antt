@@ -1,4 +1,5 @@
--- The laws of `core_model` and `sp_order` that the proofs of a table cite, for one job; and the bounds of a table's job.
+-- The laws of `core_model` and `sp_order` that the proofs of a table cite, for one job; and the bounds of a table's
+-- job.
 use Rattle.std.specs.Prelude.{ℕ, ◌≡◌, ◌<◌, ◌≤◌, ◌+◌, ◌*◌, ◌^◌, List, [], ◌∷◌, ◌++◌, length, true, false, None, Some}
 use Rattle.std.specs.List.{AllByRecursion}
 use Rattle.seq_objects.specs.Pairs.{AreDistinct}
@@ -16,9 +17,9 @@ use Rattle.core_model.specs.Invariant.Statuses.{is_taken_by}
 use Rattle.core_model.specs.Invariant.{Parts}
 use Rattle.core_model.specs.Waits.{IsTrapped, WaitsSince, task_place}
 use Rattle.core_model.specs.Words.{Entry, IsPlan, IsSide, SeqNode, ParNode, OpenSecond, FinishParent, Arrive, Op}
+use Rattle.table_rule.specs.CoreWords.{Event, Publish, Receipt, Served, Whole}
 use Rattle.core_model.specs.Settings.{job_of}
 use Rattle.core_model.specs.declared.setting.Setting.{Setting}
-use Rattle.table_rule.specs.CoreWords.{Event, Publish, Receipt, Served, Whole}
 
 -- what every setting of a table has: bounded nodes, one act for each leaf, at most 20000 acts, sources that are before
 -- their leaves, and at most 32 workers
@@ -29,7 +30,7 @@ pub record IsSound (key : Setting) : Type 0 where
   pub sources : HasSources (job_of key)
   pub workers : key.workers ≤ 32
 
--- The laws hold of the job of every such setting.
+-- The laws of the core for one job, a field each. They hold of the job of every sound setting (`laws_hold`).
 pub record Laws (job : CoreJob) : Type 0 where
   pub plan : IsPlan job.plan
   pub keeps : (old new : State) (worker : ℕ) (event : Event) → Parts job old → Happens job old worker event new → Parts job new

@@ -1,10 +1,11 @@
--- The play of each kind of step: a relation of the step, the seat before, the number found, and the seat after.
+-- The play of each kind of step: a relation of the step `st`, the seat `m` before it, the number `r` that it found in
+-- its word, and the seat `n` after it.
 use Rattle.std.specs.Prelude.{ℕ, ◌≡◌, ◌≢◌, ◌≤◌, ◌+◌, ◌<◌, ◌%◌, None, Some, List, [], ◌∷◌, ◌++◌, false, length}
 use Rattle.atomic_table.specs.Table.{Me, Step, rest}
 use Rattle.batch_history.specs.Book.{flat, IsHistory}
 use Rattle.core_model.specs.Words.{Entry}
-use Rattle.core_model.specs.declared.next.Next.TheVariants as acts
 use Rattle.table_rule.specs.CoreWords.{Event, Receipt, Task, Idle, Started, Ended, Handed, Start, Post, End, ArriveFirst, ArriveSecond}
+use Rattle.core_model.specs.declared.next.Next.TheVariants as acts
 use Rattle.core_model.specs.Events.{task_after}
 use Rattle.core_model.specs.Operations.{op_of, place_of}
 use Rattle.table_rule.specs.declared.slot.OpRecord.{OpRecord}
@@ -32,24 +33,28 @@ abbrev pub claimed : Play
 claimed st m r n =
     (node : ℕ) × (st.word ≡ node_at m.0.workers node) × (r ≡ 1 → n ≡ (with_step (claiming node) m.0, m.1)) × (r ≢ 1 → n ≡ (with_found r (refusing node) m.0, m.1))
 
--- a claim past the last node is refused; the step's first argument names the number, plus 4
+-- a claim past the last node is refused; the step's first operand is 4 more than the number claimed
 abbrev pub strayed : Play
 strayed st m r n = (node : ℕ) × (st.first ≡ 4 + node) × (n ≡ (with_found r (refusing node) m.0, m.1)) × (m.0.nodes ≤ node)
 
+-- the number found is the tick drawn, which starts or ends the task's leaf, whichever is its next act
 abbrev pub drawn : Play
 drawn st m r n =
     (r < 80000)
     × ((node leaf : ℕ) → IsNext m.0 (acts.Start node leaf) → n ≡ (with_step (with_task (Start node) (Started node r)) m.0, m.1))
     × ((node start : ℕ) → IsNext m.0 (acts.End node start) → n ≡ (with_step (with_task (End node start) (Ended node start r)) m.0, m.1))
 
+-- the next act opens a side of the task's block
 abbrev pub opened : Play
 opened st m r n =
     (node : ℕ) (task : Task) (event : Event) → IsNext m.0 (acts.Open node task event) → n ≡ (with_step (opening node event task) m.0, m.1)
 
+-- the value of the started leaf is kept; it is the step's first operand
 abbrev pub kept : Play
 kept st m r n =
     (node : ℕ) × (start : ℕ) × (m.0.own.task ≡ Started node start) × (n ≡ (with_step (keeping node start st.first) m.0, m.1))
 
+-- the next act marks a node as done
 abbrev pub finished : Play
 finished st m r n =
     (node : ℕ) (event : Event) → IsNext m.0 (acts.Finish node event) → n ≡ (with_step (with_task event (task_after node)) m.0, m.1)
@@ -61,10 +66,12 @@ arrived st m r n =
     → (r ≡ 0 → n ≡ (with_step (with_task (ArriveFirst node left right side) Idle) m.0, m.1))
     × (r ≢ 0 → n ≡ (with_step (with_task (ArriveSecond node left right side) (Handed node)) m.0, m.1))
 
+-- the root is seen done exactly if the two lowest bits of its word were 3
 abbrev pub looked_at_root : Play
 looked_at_root st m r n =
     (r % 4 ≡ 3 → n ≡ (seeing_done m.0, m.1)) × (r % 4 ≢ 3 → n ≡ (seeing_undone r m.0, m.1)) × (st.word ≡ node_at m.0.workers 0)
 
+-- the number of published batches is told
 abbrev pub heard : Play
 heard st m r n = (n ≡ (with_since r m.0, m.1)) × (st.word ≡ count_at m.0.workers)
 
@@ -72,6 +79,7 @@ heard st m r n = (n ≡ (with_since r m.0, m.1)) × (st.word ≡ count_at m.0.wo
 abbrev pub stopped_all : Play
 stopped_all st m r n = (n ≡ (with_step stopping m.0, m.1)) × (st.word ≡ stop_at m.0.workers) × (st.first ≡ 1)
 
+-- the stop word is found set exactly if it was 1
 abbrev pub looked_at_stop : Play
 looked_at_stop st m r n =
     (r ≡ 1 → n ≡ (with_step finding_stop m.0, m.1)) × (r ≢ 1 → n ≡ (with_found r finding_none m.0, m.1)) × (st.word ≡ stop_at m.0.workers)
@@ -85,12 +93,14 @@ looked_at_value st m r n =
 abbrev pub enrolled : Play
 enrolled st m r n = n ≡ (enrolling m.0, (m.0.own.worker, Slots.Vacant) ∷ m.1)
 
+-- the pass's record slot returns to the table, with the call
 abbrev pub posted : Play
 posted st m r n =
     (call : OpRecord) → m.1 ≡ (st.word, Slots.Record call) ∷ rest m.1
     → (node : ℕ) × (start : ℕ) × (m.0.own.task ≡ Started node start) × (n ≡ (with_post call (Post node start) m.0, rest m.1))
 
--- The winner gets the shop and the book. Both have the same batches, and what the pass has seen is a prefix of them.
+-- The flag is won exactly if it was 0. The winner gets the shop and the book. Both have the same batches, and what the
+-- pass has seen is a prefix of them.
 abbrev pub won : Play
 won st m r n =
     (r ≡ 0 → (m.0.own.hold ≡ None) × (book : List (List Entry))
@@ -105,7 +115,8 @@ pub record IsNewCall (room : ℕ) (h : HoldView) (call : OpRecord) : Type 0 wher
   pub apart : (x : ℕ) (other : OpRecord) → record_in h.taken x ≡ Some other → other.leaf ≢ call.leaf
   pub fits : length (flat h.book) + length h.taken + 1 ≤ room
 
--- a look at the next worker; a call that it takes has the operation of its leaf under the hold's book
+-- A look at the next worker takes its call exactly if the status was 1 (pending). A call that is taken has the
+-- operation of its leaf under the hold's book.
 abbrev pub took : Play
 took st m r n =
     (h : HoldView) × (m.0.own.hold ≡ Some h) × (h.published ≡ false)
@@ -128,6 +139,7 @@ published st m r n =
     → m.1 ≡ (st.word, Slots.Book (reserved (h.book ++ batch ∷ []) m.0.room)) ∷ rest m.1
     → n ≡ (with_step (publishing batch) m.0, rest m.1)
 
+-- the worker's record slot returns to the table, with the receipt
 abbrev pub answered : Play
 answered st m r n =
     (h : HoldView) × (m.0.own.hold ≡ Some h)
@@ -141,8 +153,9 @@ released_shop st m r n = n ≡ (with_step releasing m.0, rest m.1)
 abbrev pub released_both : Play
 released_both st m r n = n ≡ (with_step releasing m.0, rest (rest m.1))
 
--- The receipt is of the call posted last; its batch is from `before` to `after` + 1 (if any); the book has its entry,
--- whose operation is that of the call's leaf under the book.
+-- The pass leaves exactly if its status was 3 (served), with the receipt of the call that it posted last. The number of
+-- the receipt's batch is at least `before`, and at most one more than `after`, if that is told. The book has the call's
+-- entry there, whose operation is that of the call's leaf under the book.
 abbrev pub left : Play
 left st m r n =
     (r ≡ 3 → (call : OpRecord) × (receipt : Receipt) × (m.0.own.posted ≡ Some call) × (m.0.own.before ≤ receipt.batch)

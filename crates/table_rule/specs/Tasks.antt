@@ -1,19 +1,19 @@
 -- Which tasks a pass may have, the progress that a finish leaves, and the next act of a view.
 use Rattle.std.specs.Prelude.{ℕ, ◌≡◌, ◌≢◌, ◌<◌, Option as Maybe, Some}
 use Rattle.core_model.specs.Words.{Kind, ParNode}
+use Rattle.table_rule.specs.CoreWords.{Progress, Done, Ran, Task, Idle, Run, Half, Started, Kept, Ended, Whole, Handed}
 use Rattle.core_model.specs.State.{CoreJob, core_job}
 use Rattle.core_model.specs.Operations.{IsLeaf}
 use Rattle.core_model.specs.Next.{next_act}
 use Rattle.core_model.specs.declared.next.Next.{Next}
-use Rattle.table_rule.specs.CoreWords.{Progress, Done, Ran, Task, Idle, Run, Half, Started, Kept, Ended, Whole, Handed}
 use Rattle.table_rule.specs.declared.view.View.{View}
 
 abbrev pub IsPar : Maybe Kind → Type 0
 IsPar (Some (ParNode l r)) = Unit {0}
 IsPar _ = ⊥
 
--- The task's node, if any, is one of the plan, and its ticks are below 80000. `Started` is at a leaf, `Half` and `Handed`
--- are at a parallel block, and `Whole` is not at the root, after which nothing is left to do.
+-- The task's node, if any, is one of the plan, and its ticks are below 80000. `Started` is at a leaf, `Half` and
+-- `Handed` are at a parallel block, and `Whole` is not at the root, after which nothing is left to do.
 abbrev pub TaskHere : CoreJob → Task → Type 0
 TaskHere job Idle = Unit {0}
 TaskHere job (Run n) = n < job.plan.count

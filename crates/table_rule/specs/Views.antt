@@ -1,5 +1,5 @@
--- The view of a seat at the start of a table, and after each kind of step: what `Passes.antt` says of its pass, and what
--- the table's rule needs beside it. A step changes the view of its own seat only.
+-- The view of a seat at the start of a table, and after each kind of step: what `Passes.antt` says of its pass, and
+-- what the table's rule needs beside it. A step changes the view of its own seat only.
 use Rattle.std.specs.Prelude.{ℕ, ◌+◌, Bool, Option as Maybe, Some, true, false}
 use Rattle.sp_order.specs.Jobs.{JobValue}
 use Rattle.core_model.specs.declared.setting.Setting.{Setting}
@@ -46,8 +46,8 @@ rest_from n setting = record (first_view setting) { own = unused n }
 abbrev pub enrolling : View → View
 enrolling v = record v { enrolled = true }
 
--- The view after a step that does this to the pass and is no post; and if the step, a look or a refused try, found this
--- word.
+-- The view after a step that is no post and does this to the pass. `with_found` is for a look or a refused try: the
+-- view keeps the word that it found.
 abbrev pub with_step : (PassView → PassView) → View → View
 with_step f v = record v { own = f v.own; just_posted = false }
 

@@ -1,7 +1,8 @@
-//! The rule's laws: those of the core that the rule rests on, and what a table that meets the rule satisfies.
-ghost use Rattle.std.specs.Prelude.{◌≡◌, ◌<◌, ◌+◌, ◌≤◌, ℕ, List, [], length, slice_index};
+//! The rule's laws: those of the core that the rule rests on, and what holds of every table that meets the rule.
+ghost use Rattle.std.specs.Prelude.{◌≡◌, ◌<◌, ◌+◌, ◌≤◌, ℕ, List, [], Some, length, slice_index};
 ghost use mathlib.Core.Option.{some};
 ghost use lib.ListN.{get_elem?};
+ghost use Rattle.seq_objects.specs.Objects.{value_of};
 ghost use Rattle.sp_order.specs.Jobs.{job_tree};
 ghost use Rattle.sp_order.specs.Precedence.{leaves};
 ghost use Rattle.core_model.specs.declared.setting.Setting.{Setting};
@@ -13,7 +14,8 @@ ghost use Rattle.table_rule.specs.Words.{stop_at};
 ghost use Rattle.core_model.specs.Entries.{StandsAt};
 ghost use Rattle.core_model.specs.LeafSources.{HasSources};
 ghost use Rattle.core_model.specs.State.{opening_state};
-ghost use Rattle.batch_history.specs.declared.batch.Entry.{Entry};
+ghost use Rattle.core_model.specs.Words.{Entry, LeafNode};
+ghost use Rattle.table_rule.specs.CoreWords.{Started};
 
 use core_model::laws::book::{
     calls_have_room, entries_are_found_at_their_places, operations_stay,
@@ -71,6 +73,25 @@ pub fn entries_stay_where_they_stand()
         → StandsAt front batch place entry
         → StandsAt book batch place entry }
 {}
+
+/// A number that `source_value` told a pass is the value of its source: the pass has started a leaf that has a source,
+/// an entry of the source stands in the book, and the number is the value of that entry's reply.
+pub fn told_values_are_those_of_sources()
+    ensures { (key : Setting) (t : TableState) (shown : Shown key t) (id : ℕ) (v : View) (value : ℕ)
+        → get_elem? t.views id ≡ some v
+        → v.own.worker < v.to
+        → v.own.told ≡ Some value
+        → (node : ℕ) × (start : ℕ) × (leaf : ℕ) × (source : ℕ)
+        × (v.own.task ≡ Started node start)
+        × ((job_of key).plan.kind node ≡ Some (LeafNode leaf))
+        × ((job_of key).source leaf ≡ Some source)
+        × (batch : ℕ) × (place : ℕ) × (entry : Entry)
+        × StandsAt shown.state.book batch place entry
+        × (entry.leaf ≡ source)
+        × (value ≡ value_of entry.reply) }
+{
+    entries_are_found_at_their_places();
+}
 
 /// A table on which every worker's seat has no events shows the opening state. So a new table does: no leaf has run
 /// on it.

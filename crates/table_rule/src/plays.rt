@@ -1,4 +1,5 @@
-//! The table's rule and one play for each kind of step: what a seat learns from that step (`specs/Plays.antt`).
+//! The rule that a running table keeps, and its kinds of step. Each kind has a play, which relates the seat before a
+//! step to the seat after it: what the step tells its pass, and which slots it moves (`specs/Plays.antt`).
 ghost use Rattle.table_rule.specs.Shows.{Shown};
 ghost use Rattle.table_rule.specs.Views.{first_view, pass_of, rest_of};
 ghost use Rattle.table_rule.specs.Plays.{claimed, strayed, drawn, opened, kept, finished, arrived, looked_at_root, heard, enrolled, posted, won, took, admitted, published, answered, released_shop, released_both, left, stopped_all, looked_at_stop, looked_at_value};
@@ -8,62 +9,73 @@ use crate::view::View;
 use atomic_table::{Play, Split, TableRule};
 use core_model::Setting;
 
-pub struct Law;
+/// The rule of the running table: its words, slots and views show a state of the scheduler's core (`Shown`).
+/// A step is made only with a proof that it keeps this rule.
+pub struct SchedulerRule;
 
-impl TableRule<Slot, View, Setting> for Law {
+impl TableRule<Slot, View, Setting> for SchedulerRule {
     ghost holds = { Shown };
 
     ghost first = { first_view };
 }
 
+/// A try to claim a node.
 pub struct Claim;
 
 impl Play<Slot, View> for Claim {
     ghost then = { claimed };
 }
 
+/// A claim of a number past the last node, which is refused.
 pub struct ClaimOutOfRange;
 
 impl Play<Slot, View> for ClaimOutOfRange {
     ghost then = { strayed };
 }
 
+/// The draw of a tick, which starts or ends a leaf.
 pub struct DrawTick;
 
 impl Play<Slot, View> for DrawTick {
     ghost then = { drawn };
 }
 
+/// The opening of the next side of a block.
 pub struct Open;
 
 impl Play<Slot, View> for Open {
     ghost then = { opened };
 }
 
+/// The keeping of a leaf's value.
 pub struct Keep;
 
 impl Play<Slot, View> for Keep {
     ghost then = { kept };
 }
 
+/// The marking of a leaf or a block as done.
 pub struct Finish;
 
 impl Play<Slot, View> for Finish {
     ghost then = { finished };
 }
 
+/// The arrival of a side at its parallel block.
 pub struct Arrive;
 
 impl Play<Slot, View> for Arrive {
     ghost then = { arrived };
 }
 
+/// A look whether the root is done.
 pub struct LookAtRoot;
 
 impl Play<Slot, View> for LookAtRoot {
     ghost then = { looked_at_root };
 }
 
+/// A look at the number of published batches.
 pub struct ReadBatchCount;
 
 impl Play<Slot, View> for ReadBatchCount {
@@ -79,24 +91,28 @@ impl Split<View> for SplitSeat {
     ghost right = { pass_of };
 }
 
+/// The first step of a pass: it takes its worker's record slot from the table.
 pub struct Enrol;
 
 impl Play<Slot, View> for Enrol {
     ghost then = { enrolled };
 }
 
+/// The posting of a call, in the worker's record slot.
 pub struct Post;
 
 impl Play<Slot, View> for Post {
     ghost then = { posted };
 }
 
+/// A try for the flag. The winner takes the shop and the book from the table.
 pub struct Win;
 
 impl Play<Slot, View> for Win {
     ghost then = { won };
 }
 
+/// A look at the next worker, which takes its call if that is pending.
 pub struct Take;
 
 impl Play<Slot, View> for Take {
@@ -110,36 +126,42 @@ impl Play<Slot, View> for CheckRoom {
     ghost then = { admitted };
 }
 
+/// The publishing of a batch. The book returns to the table, with the batch.
 pub struct Publish;
 
 impl Play<Slot, View> for Publish {
     ghost then = { published };
 }
 
+/// The answer to a worker whose call was taken: a receipt, in its record slot.
 pub struct Answer;
 
 impl Play<Slot, View> for Answer {
     ghost then = { answered };
 }
 
+/// The release of the flag after a publish. The shop returns to the table.
 pub struct ReleaseShop;
 
 impl Play<Slot, View> for ReleaseShop {
     ghost then = { released_shop };
 }
 
+/// The release of the flag without a publish. The shop and the book return to the table.
 pub struct ReleaseBoth;
 
 impl Play<Slot, View> for ReleaseBoth {
     ghost then = { released_both };
 }
 
+/// A try to leave with the receipt of the posted call.
 pub struct Leave;
 
 impl Play<Slot, View> for Leave {
     ghost then = { left };
 }
 
+/// The setting of the stop word.
 pub struct Stop;
 
 impl Play<Slot, View> for Stop {
@@ -153,6 +175,7 @@ impl Play<Slot, View> for LookAtValue {
     ghost then = { looked_at_value };
 }
 
+/// A look whether the stop word is set.
 pub struct LookAtStop;
 
 impl Play<Slot, View> for LookAtStop {

@@ -74,8 +74,8 @@ pub struct PassView {
 /// The view of a seat: that of its pass, and what the table's rule needs beside it.
 pub struct View {
     pub own: PassView,
-    /// The end of the range of worker numbers, `own.worker` to below `to`. A pass has one number; the first seat has all
-    /// not yet split off.
+    /// The end of the range of worker numbers, `own.worker` to below `to`. A pass has one number; the first seat has
+    /// all not yet split off.
     pub to: u64,
     /// The numbers of workers and nodes, and the batches that the book has room for: one for each leaf that calls.
     pub workers: u64,

@@ -1,5 +1,5 @@
 -- A job has no more calls than nodes.
-use Rattle.std.proofs.Common.{ℕ, zero, suc, ◌≡◌, ◌<◌, ◌≤◌, ◌+◌, ◌^◌, ap, Option as Maybe, None, Some, arith}
+use Rattle.std.proofs.Common.{ℕ, zero, suc, ◌≡◌, ◌≤◌, ◌+◌, ap, Option as Maybe, None, Some, arith}
 use Rattle.core_model.specs.State.{CoreJob}
 use Rattle.core_model.specs.Operations.{op_in}
 use Rattle.core_model.specs.Measure.{call_count, one_if_call, one_if, total}
@@ -17,9 +17,6 @@ total_few f (suc n) h = let a = h n in let b = total_few f n h in omega (arith, 
 
 pub room_few : (job : CoreJob) → call_count job ≤ job.plan.count
 room_few job = total_few (λ n. one_if_call job (job.plan.kind n)) job.plan.count (λ n. one_at_most job (job.plan.kind n))
-
-pub few_batches_in : (room count batches : ℕ) → room ≤ count → count < 40000 → batches < room → batches < 2 ^ 32
-few_batches_in room count batches a b c = omega (arith, a, b, c)
 
 pub total_next : (f : ℕ → ℕ) (n : ℕ) → total f (n + 1) ≡ f n + total f n
 total_next f n = let e : n + 1 ≡ suc n = omega arith in ap (total f) e

@@ -41,7 +41,7 @@ use Rattle.table_rule.specs.declared.slot.Slot.{Slot}
 use Rattle.table_rule.specs.declared.slot.Slot.TheVariants as Slots
 use Rattle.table_rule.specs.Words.{stop_at, flag_at, status_code, flag_code, WordsShow}
 use Rattle.table_rule.specs.Laws.{Laws}
-use Rattle.table_rule.specs.Steps.{ShowsOne, Steps, TryMakes, IsEvent, LeaveMakes}
+use Rattle.table_rule.specs.Steps.{ShowsOne, StepRefines, TryMakes, MakesEvent, MakesLeave}
 use Rattle.table_rule.specs.Tasks.{job_seen}
 use Rattle.table_rule.proofs.StepLemmas.NextActs.{MayPost}
 use Rattle.table_rule.specs.Shows.{reserved, TableState, SlotHome, IsFront, IsRecordOf, RecordAt, ShopAt, IsBookHome, BookIf, BookAt, took_in, record_in, among, hold_of, HoldKnown, entry_of, Shows}
@@ -184,8 +184,8 @@ taken_is : (s : State) (k x : ℕ) (h : HoldView) → s.hold ≡ Some (hold_of k
 taken_is s k x h held took yet = rw held (yes_and_not (took_in h.taken x) (among h.answered x) took yet)
 
 -- the leave with this receipt is some leave
-left_with : (job : CoreJob) (room : ℕ) {t : TableState} (s : State) (k : ℕ) (r : Receipt) → ShowsOne job room (Happens job s k (Leave r)) t → ShowsOne job room (LeaveMakes job k s) t
-left_with job room s k r h = (h.0, (r, h.1))
+left_with : (job : CoreJob) (room : ℕ) {t : TableState} (s : State) (k word : ℕ) (r : Receipt) → ShowsOne job room (Happens job s k (Leave r)) t → ShowsOne job room (MakesLeave job k s word) t
+left_with job room s k word r h = (h.0, (r, h.1))
 
 -- no worker that was taken before is the next one
 others_before : (taken : List Call) (u : ℕ) → ((x : ℕ) → took_in taken x ≡ true → x < u) → AllByRecursion (λ y. u ≢ y) (map (λ (t : Call). t.worker) taken)
@@ -217,7 +217,7 @@ module _ (job : CoreJob) (room : ℕ) (laws : Laws job) (slots id : ℕ) (v : Vi
 
   -- a post
   pub posts : (call : OpRecord) → v.enrolled ≡ true → (is : MayPost job v.own.told v.own.task call) → v.own.call ≡ NotCalled
-      → Steps job room slots id (v, (k, Slots.Record call) ∷ xs) k (λ y. 1) (λ y. G.posted (step slots k 1 0 none) (v, (k, Slots.Record call) ∷ xs) 1) (λ before found after. IsEvent job k (Post is.0 is.1) before after)
+      → StepRefines job room slots id (v, (k, Slots.Record call) ∷ xs) k (λ y. 1) (λ y. G.posted (step slots k 1 0 none) (v, (k, Slots.Record call) ∷ xs) 1) (MakesEvent job k (Post is.0 is.1))
   posts call enrolled is called t o wide me fits =
       let s = o.state in
       let m = mine_of job room t o id k v me from to in
@@ -263,16 +263,16 @@ module _ (job : CoreJob) (room : ℕ) (laws : Laws job) (slots id : ℕ) (v : Vi
       )
 
   pub posts_at : (m : G.SeatState) (call : OpRecord) → m ≡ (v, (k, Slots.Record call) ∷ xs) → v.enrolled ≡ true → (is : MayPost job v.own.told v.own.task call) → v.own.call ≡ NotCalled
-      → Steps job room slots id m k (λ y. 1) (λ y. G.posted (step slots k 1 0 none) m 1) (λ before found after. IsEvent job k (Post is.0 is.1) before after)
-  posts_at m call e enrolled is called = subst (λ (m : G.SeatState). Steps job room slots id m k (λ y. 1) (λ y. G.posted (step slots k 1 0 none) m 1) (λ before found after. IsEvent job k (Post is.0 is.1) before after)) (sym e) (posts call enrolled is called)
+      → StepRefines job room slots id m k (λ y. 1) (λ y. G.posted (step slots k 1 0 none) m 1) (MakesEvent job k (Post is.0 is.1))
+  posts_at m call e enrolled is called = subst (λ (m : G.SeatState). StepRefines job room slots id m k (λ y. 1) (λ y. G.posted (step slots k 1 0 none) m 1) (MakesEvent job k (Post is.0 is.1))) (sym e) (posts call enrolled is called)
 
   -- a trapped pass tries for the flag
-  pub wins : v.workers ≡ P → v.own.call ≡ Out → v.room ≡ room → Steps job room slots id (v, xs) (flag_at P) (λ y. either (eqb y 0) (k + 1) y) (G.won (step slots (flag_at P) 0 (k + 1) none) (v, xs)) (TryMakes 0 (IsEvent job k Win))
+  pub wins : v.workers ≡ P → v.own.call ≡ Out → v.room ≡ room → StepRefines job room slots id (v, xs) (flag_at P) (λ y. either (eqb y 0) (k + 1) y) (G.won (step slots (flag_at P) 0 (k + 1) none) (v, xs)) (TryMakes 0 (MakesEvent job k Win))
   wins sized out roomy t o wide me fits =
       let s = o.state in
       let word = get_or t.words P 0 in
       let m = mine_of job room t o id k v me from to in
-      exchanged word 0 (k + 1) (λ y. (w : View) × (a : Act Slot) × Valid t.homes xs a × ShowsOne job room (TryMakes 0 (IsEvent job k Win) s word) (stepped t P y id xs w a) × G.won (step slots P 0 (k + 1) none) (v, xs) word (w, carried_after xs a))
+      exchanged word 0 (k + 1) (λ y. (w : View) × (a : Act Slot) × Valid t.homes xs a × ShowsOne job room (TryMakes 0 (MakesEvent job k Win) s word) (stepped t P y id xs w a) × G.won (step slots P 0 (k + 1) none) (v, xs) word (w, carried_after xs a))
       (λ zero.
       let open_ : s.hold ≡ None = free_flag s.hold (sym o.words.flag ∙ zero) in
       let shop = subst (λ (h : Maybe Hold). ShopAt h s.book (get_elem? t.homes P)) open_ o.slots.shop in
@@ -287,7 +287,7 @@ module _ (job : CoreJob) (room : ℕ) (laws : Laws job) (slots id : ℕ) (v : Vi
         w,
         chain (takes (P + 1) (Slots.Book (reserved s.book room))) (takes P (Slots.Shop s.book)),
         (book, set_else t.homes (P + 1) P none (λ e. omega arith) ∙ shop),
-        found word 0 (IsEvent job k Win) zero (moved job room laws t o id k v w (set t.words P (k + 1)) homes Win new happens me from to from to record { events = refl; stops = refl; found = refl } (get_or-set_other t.words (P) (stop_at P) (k + 1) 0 (λ e. omega arith))
+        found word 0 (MakesEvent job k Win) zero (moved job room laws t o id k v w (set t.words P (k + 1)) homes Win new happens me from to from to record { events = refl; stops = refl; found = refl } (get_or-set_other t.words (P) (stop_at P) (k + 1) 0 (λ e. omega arith))
             (set_flag P N t.words s.node s.mark s.value s.status s.hold s.tick (length s.book) o.words (Some h))
             record {
               wide = length-set (set t.homes (P + 1) none) P none ∙ (length-set t.homes (P + 1) none ∙ o.slots.wide);
@@ -306,19 +306,19 @@ module _ (job : CoreJob) (room : ℕ) (laws : Laws job) (slots id : ℕ) (v : Vi
         V.with_found word W.losing v,
         keeps,
         tt,
-        missed word 0 (IsEvent job k Win) ne (looked job room t o id k P v (V.with_found word W.losing v) me from to from to refl refl (λ h. inl h)
+        missed word 0 (MakesEvent job k Win) ne (looked job room t o id k P v (V.with_found word W.losing v) me from to from to refl refl (λ h. inl h)
             (λ own. record { sits = own.sits; task = own.task; call = own.call; posted = own.posted; told = own.told; entries = own.entries; hold = own.hold; new = own.new; done = own.done; seen = own.seen; since = record { most = own.since.most; early = own.since.early; late = own.since.late; placed = own.since.placed; waits = own.since.waits } })),
         ((λ zero. absurd (ne zero)), (λ _. refl), ap flag_at (sym sized)),
       ))
 
   -- a trapped pass without the flag tries to leave
-  pub leaves : v.enrolled ≡ true → v.own.call ≡ Out → v.own.hold ≡ None → job_seen v ≡ job → Steps job room slots id (v, xs) k (λ y. either (eqb y 3) 0 y) (G.left (step slots k 3 0 none) (v, xs)) (TryMakes 3 (LeaveMakes job k))
+  pub leaves : v.enrolled ≡ true → v.own.call ≡ Out → v.own.hold ≡ None → job_seen v ≡ job → StepRefines job room slots id (v, xs) k (λ y. either (eqb y 3) 0 y) (G.left (step slots k 3 0 none) (v, xs)) (TryMakes 3 (MakesLeave job k))
   leaves enrolled out idle seen t o wide me fits =
       let s = o.state in
       let word = get_or t.words k 0 in
       let m = mine_of job room t o id k v me from to in
       let out' : s.call k ≡ Out = m.1.call ∙ out in
-      exchanged word 3 0 (λ y. (w : View) × (a : Act Slot) × Valid t.homes xs a × ShowsOne job room (TryMakes 3 (LeaveMakes job k) s word) (stepped t k y id xs w a) × G.left (step slots k 3 0 none) (v, xs) word (w, carried_after xs a))
+      exchanged word 3 0 (λ y. (w : View) × (a : Act Slot) × Valid t.homes xs a × ShowsOne job room (TryMakes 3 (MakesLeave job k) s word) (stepped t k y id xs w a) × G.left (step slots k 3 0 none) (v, xs) word (w, carried_after xs a))
       (λ three.
       let st = served_word (s.status k) (sym (o.words.statuses k m.0) ∙ three) in
       let r = st.0 in
@@ -333,7 +333,7 @@ module _ (job : CoreJob) (room : ℕ) (laws : Laws job) (slots id : ℕ) (v : Vi
         w,
         takes k (Slots.Receipt r),
         home,
-        found word 3 (LeaveMakes job k) three (left_with job room s k r (moved job room laws t o id k v w (set t.words k 0) (set t.homes k none) (Leave r) new happens me from to from to record { events = refl; stops = refl; found = refl } (get_or-set_other t.words k (stop_at P) 0 0 (λ e. let low = m.0 in omega arith))
+        found word 3 (MakesLeave job k) three (left_with job room s k word r (moved job room laws t o id k v w (set t.words k 0) (set t.homes k none) (Leave r) new happens me from to from to record { events = refl; stops = refl; found = refl } (get_or-set_other t.words k (stop_at P) 0 0 (λ e. let low = m.0 in omega arith))
             (set_status P N t.words s.node s.mark s.value s.status s.hold s.tick (length s.book) o.words k Free m.0)
             (slots_record job room t.homes s.task s.status s.hold s.hold s.book k Free none o.slots m.0 tt (λ home h. h) (λ home h. h))
             (λ own. record {
@@ -374,7 +374,7 @@ module _ (job : CoreJob) (room : ℕ) (laws : Laws job) (slots id : ℕ) (v : Vi
         V.with_found word W.staying v,
         keeps,
         tt,
-        missed word 3 (LeaveMakes job k) ne (looked job room t o id k k v (V.with_found word W.staying v) me from to from to refl refl (λ h. inl h)
+        missed word 3 (MakesLeave job k) ne (looked job room t o id k k v (V.with_found word W.staying v) me from to from to refl refl (λ h. inl h)
             (λ own. record { sits = own.sits; task = own.task; call = own.call; posted = own.posted; told = own.told; entries = own.entries; hold = own.hold; new = own.new; done = own.done; seen = own.seen; since = record { most = own.since.most; early = own.since.early; late = own.since.late; placed = own.since.placed; waits = own.since.waits } })),
         ((λ three. absurd (ne three)), (λ _. refl), sym from),
       ))
@@ -391,7 +391,7 @@ module _ (job : CoreJob) (room : ℕ) (laws : Laws job) (slots id : ℕ) (v : Vi
 
   -- the holder looks at the next worker
   pub looks : (h : HoldView) (u : ℕ) → v.room ≡ call_count job → job_seen v ≡ job → v.own.hold ≡ Some h → u ≡ h.looks → u < job.workers
-      → Steps job room slots id (v, xs) u (λ y. either (eqb y 1) 2 y) (G.took (step slots u 1 2 none) (v, xs)) (λ before found after. IsEvent job k (Take u) before after)
+      → StepRefines job room slots id (v, xs) u (λ y. either (eqb y 1) 2 y) (G.took (step slots u 1 2 none) (v, xs)) (MakesEvent job k (Take u))
   looks h u roomy seen holds next low t o wide me fits =
       let s = o.state in
       let word = get_or t.words u 0 in
@@ -400,7 +400,7 @@ module _ (job : CoreJob) (room : ℕ) (laws : Laws job) (slots id : ℕ) (v : Vi
       let held : s.hold ≡ Some (hold_of k h) = known.0 in
       let stands = rw held at o.parts.hold in
       let unpublished : h.published ≡ false = not_published h.published h.looks job.workers stands.3 (omega (arith, next, low)) in
-      exchanged word 1 2 (λ y. (w : View) × (a : Act Slot) × Valid t.homes xs a × ShowsOne job room (IsEvent job k (Take u) s) (stepped t u y id xs w a) × G.took (step slots u 1 2 none) (v, xs) word (w, carried_after xs a))
+      exchanged word 1 2 (λ y. (w : View) × (a : Act Slot) × Valid t.homes xs a × ShowsOne job room (MakesEvent job k (Take u) s word) (stepped t u y id xs w a) × G.took (step slots u 1 2 none) (v, xs) word (w, carried_after xs a))
       (λ one.
       let pending : s.status u ≡ Pending = pending_word (s.status u) (sym (o.words.statuses u low) ∙ one) in
       let what = subst (λ (z : Status). RecordAt job s.book (s.task u) z (get_elem? t.homes u)) pending (o.slots.records u low) in
@@ -475,13 +475,16 @@ module _ (job : CoreJob) (room : ℕ) (laws : Laws job) (slots id : ℕ) (v : Vi
       free_untaken job s u k h call kept (subst (λ (y : ℕ). s.status y ≡ Free) same (is_free job s x kept (rw not_called (λ e. cc)))) held is yet
 
   -- the holder hands a worker its receipt
-  pub answers : (h : HoldView) (u : ℕ) (call : OpRecord) (r : Receipt) → v.own.hold ≡ Some h → u < job.workers → h.published ≡ true → record_in h.taken u ≡ Some call → among h.answered u ≡ false → IsReceipt (place_of h.book call.leaf) r
-      → Steps job room slots id (v, (u, Slots.Receipt r) ∷ xs) u (λ y. 3) (λ y. G.answered (step slots u 3 0 none) (v, (u, Slots.Receipt r) ∷ xs) 3) (λ before found after. IsEvent job k (Answer u r) before after)
-  answers h u call r holds low there is yet receipt t o wide me fits =
+  pub answers : (h : HoldView) (u : ℕ) (call : OpRecord) (r : Receipt) → v.own.hold ≡ Some h → h.published ≡ true → record_in h.taken u ≡ Some call → among h.answered u ≡ false → IsReceipt (place_of h.book call.leaf) r
+      → StepRefines job room slots id (v, (u, Slots.Receipt r) ∷ xs) u (λ y. 3) (λ y. G.answered (step slots u 3 0 none) (v, (u, Slots.Receipt r) ∷ xs) 3) (MakesEvent job k (Answer u r))
+  answers h u call r holds there is yet receipt t o wide me fits =
       let s = o.state in
       let m = mine_of job room t o id k v me from to in
       let known = holding t o h me holds in
       let held : s.hold ≡ Some (hold_of k h) = known.0 in
+      let stands = rw held at o.parts.hold in
+      let looked_at = stands.2 u (record_took h.taken u call is) in
+      let low : u < job.workers = omega (arith, looked_at, stands.1) in
       let what = known.2 u call is yet in
       let f = W.after_answer u in
       let h' = f h in
@@ -540,7 +543,7 @@ module _ (job : CoreJob) (room : ℕ) (laws : Laws job) (slots id : ℕ) (v : Vi
       (hold_gone job s new k x (hold_of k h) ne held refl refl y.own.hold other.hold) other)
 
   pub releases_shop : (h : HoldView) (shop : List (List Entry)) → v.own.hold ≡ Some h → h.looks ≡ job.workers → h.published ≡ true → ((u : ℕ) → took_in h.taken u ≡ true → among h.answered u ≡ true) → shop ≡ h.book
-      → Steps job room slots id (v, (flag_at P, Slots.Shop shop) ∷ xs) (flag_at P) (λ y. 0) (λ y. G.released_shop (step slots (flag_at P) 0 0 none) (v, (flag_at P, Slots.Shop shop) ∷ xs) 0) (λ before found after. IsEvent job k (Release) before after)
+      → StepRefines job room slots id (v, (flag_at P, Slots.Shop shop) ∷ xs) (flag_at P) (λ y. 0) (λ y. G.released_shop (step slots (flag_at P) 0 0 none) (v, (flag_at P, Slots.Shop shop) ∷ xs) 0) (MakesEvent job k (Release))
   releases_shop h shop holds looked_all there all whole t o wide me fits =
       let s = o.state in
       let known = holding t o h me holds in
@@ -558,8 +561,8 @@ module _ (job : CoreJob) (room : ℕ) (laws : Laws job) (slots id : ℕ) (v : Vi
       )
 
   pub releases_both : (h : HoldView) (shop : List (List Entry)) → v.own.hold ≡ Some h → h.looks ≡ job.workers → ((u : ℕ) → took_in h.taken u ≡ true → among h.answered u ≡ true) → shop ≡ h.book
-      → Steps job room slots id (v, (flag_at P, Slots.Shop shop) ∷ (flag_at P + 1, Slots.Book (reserved h.book room)) ∷ xs) (flag_at P) (λ y. 0)
-      (λ y. G.released_both (step slots (flag_at P) 0 0 none) (v, (flag_at P, Slots.Shop shop) ∷ (flag_at P + 1, Slots.Book (reserved h.book room)) ∷ xs) 0) (λ before found after. IsEvent job k (Release) before after)
+      → StepRefines job room slots id (v, (flag_at P, Slots.Shop shop) ∷ (flag_at P + 1, Slots.Book (reserved h.book room)) ∷ xs) (flag_at P) (λ y. 0)
+      (λ y. G.released_both (step slots (flag_at P) 0 0 none) (v, (flag_at P, Slots.Shop shop) ∷ (flag_at P + 1, Slots.Book (reserved h.book room)) ∷ xs) 0) (MakesEvent job k (Release))
   releases_both h shop holds looked_all all whole t o wide me fits =
       let s = o.state in
       let known = holding t o h me holds in
@@ -578,14 +581,14 @@ module _ (job : CoreJob) (room : ℕ) (laws : Laws job) (slots id : ℕ) (v : Vi
         refl,
       )
 
-  pub answers_at : (m : G.SeatState) (h : HoldView) (u : ℕ) (call : OpRecord) (r : Receipt) → m ≡ (v, (u, Slots.Receipt r) ∷ xs) → v.own.hold ≡ Some h → u < job.workers → h.published ≡ true → record_in h.taken u ≡ Some call → among h.answered u ≡ false → IsReceipt (place_of h.book call.leaf) r
-      → Steps job room slots id m u (λ y. 3) (λ y. G.answered (step slots u 3 0 none) m 3) (λ before found after. IsEvent job k (Answer u r) before after)
-  answers_at m h u call r e holds low there is yet receipt = subst (λ (m : G.SeatState). Steps job room slots id m u (λ y. 3) (λ y. G.answered (step slots u 3 0 none) m 3) (λ before found after. IsEvent job k (Answer u r) before after)) (sym e) (answers h u call r holds low there is yet receipt)
+  pub answers_at : (m : G.SeatState) (h : HoldView) (u : ℕ) (call : OpRecord) (r : Receipt) → m ≡ (v, (u, Slots.Receipt r) ∷ xs) → v.own.hold ≡ Some h → h.published ≡ true → record_in h.taken u ≡ Some call → among h.answered u ≡ false → IsReceipt (place_of h.book call.leaf) r
+      → StepRefines job room slots id m u (λ y. 3) (λ y. G.answered (step slots u 3 0 none) m 3) (MakesEvent job k (Answer u r))
+  answers_at m h u call r e holds there is yet receipt = subst (λ (m : G.SeatState). StepRefines job room slots id m u (λ y. 3) (λ y. G.answered (step slots u 3 0 none) m 3) (MakesEvent job k (Answer u r))) (sym e) (answers h u call r holds there is yet receipt)
 
   pub releases_shop_at : (m : G.SeatState) (h : HoldView) (shop : List (List Entry)) → m ≡ (v, (flag_at P, Slots.Shop shop) ∷ xs) → v.own.hold ≡ Some h → h.looks ≡ job.workers → h.published ≡ true → ((u : ℕ) → took_in h.taken u ≡ true → among h.answered u ≡ true) → shop ≡ h.book
-      → Steps job room slots id m (flag_at P) (λ y. 0) (λ y. G.released_shop (step slots (flag_at P) 0 0 none) m 0) (λ before found after. IsEvent job k (Release) before after)
-  releases_shop_at m h shop e holds looked_all there all whole = subst (λ (m : G.SeatState). Steps job room slots id m (flag_at P) (λ y. 0) (λ y. G.released_shop (step slots (flag_at P) 0 0 none) m 0) (λ before found after. IsEvent job k (Release) before after)) (sym e) (releases_shop h shop holds looked_all there all whole)
+      → StepRefines job room slots id m (flag_at P) (λ y. 0) (λ y. G.released_shop (step slots (flag_at P) 0 0 none) m 0) (MakesEvent job k (Release))
+  releases_shop_at m h shop e holds looked_all there all whole = subst (λ (m : G.SeatState). StepRefines job room slots id m (flag_at P) (λ y. 0) (λ y. G.released_shop (step slots (flag_at P) 0 0 none) m 0) (MakesEvent job k (Release))) (sym e) (releases_shop h shop holds looked_all there all whole)
 
   pub releases_both_at : (m : G.SeatState) (h : HoldView) (shop : List (List Entry)) → m ≡ (v, (flag_at P, Slots.Shop shop) ∷ (flag_at P + 1, Slots.Book (reserved h.book room)) ∷ xs) → v.own.hold ≡ Some h → h.looks ≡ job.workers → ((u : ℕ) → took_in h.taken u ≡ true → among h.answered u ≡ true) → shop ≡ h.book
-      → Steps job room slots id m (flag_at P) (λ y. 0) (λ y. G.released_both (step slots (flag_at P) 0 0 none) m 0) (λ before found after. IsEvent job k (Release) before after)
-  releases_both_at m h shop e holds looked_all all whole = subst (λ (m : G.SeatState). Steps job room slots id m (flag_at P) (λ y. 0) (λ y. G.released_both (step slots (flag_at P) 0 0 none) m 0) (λ before found after. IsEvent job k (Release) before after)) (sym e) (releases_both h shop holds looked_all all whole)
+      → StepRefines job room slots id m (flag_at P) (λ y. 0) (λ y. G.released_both (step slots (flag_at P) 0 0 none) m 0) (MakesEvent job k (Release))
+  releases_both_at m h shop e holds looked_all all whole = subst (λ (m : G.SeatState). StepRefines job room slots id m (flag_at P) (λ y. 0) (λ y. G.released_both (step slots (flag_at P) 0 0 none) m 0) (MakesEvent job k (Release))) (sym e) (releases_both h shop holds looked_all all whole)

@@ -32,7 +32,7 @@ use Rattle.table_rule.proofs.StepLemmas.Sides.{block_in}
 use Rattle.table_rule.proofs.TableLemmas.Traces.{AddsEvent}
 use Rattle.table_rule.specs.Words.{stop_at, node_at, mark_at, value_at, tick_at, progress_code, WordsShow}
 use Rattle.table_rule.specs.Laws.{Laws}
-use Rattle.table_rule.specs.Steps.{ShowsOne, Steps, TryMakes, ArrivalMakes, IsEvent}
+use Rattle.table_rule.specs.Steps.{ShowsOne, StepRefines, TryMakes, ArrivalMakes, MakesEvent}
 use Rattle.table_rule.specs.Shows.{TableState, Shows, AgreesWithView}
 use Rattle.table_rule.specs.Plays.{claimed, drawn, opened, kept, finished, arrived}
 use Rattle.table_rule.specs.Passes.{with_task, claiming, refusing, opening, keeping}
@@ -68,19 +68,19 @@ module _ (job : CoreJob) (room : ℕ) (laws : Laws job) (slots id : ℕ) (v : Vi
 
   -- a claim
   pub claims : (n : ℕ) → n < job.plan.count → v.own.task ≡ Idle → v.own.call ≢ Out
-      → Steps job room slots id (v, xs) (node_at job.workers n) (λ y. either (eqb y 1) 2 y) (claimed (step slots (node_at job.workers n) 1 2 none) (v, xs)) (TryMakes 1 (IsEvent job k (Claim n)))
+      → StepRefines job room slots id (v, xs) (node_at job.workers n) (λ y. either (eqb y 1) 2 y) (claimed (step slots (node_at job.workers n) 1 2 none) (v, xs)) (TryMakes 1 (MakesEvent job k (Claim n)))
   claims n below idle inside t o wide me fits =
       let s = o.state in
       let word = get_or t.words (node_at job.workers n) 0 in
       let m = mine_of job room t o id k v me from to in
       let inside' : s.call k ≢ Out = λ e. inside (sym m.1.call ∙ e) in
-      exchanged word 1 2 (λ y. (w : View) × (a : Act Slot) × Valid t.homes xs a × ShowsOne job room (TryMakes 1 (IsEvent job k (Claim n)) s word) (stepped t (node_at job.workers n) y id xs w a) × claimed (step slots (node_at job.workers n) 1 2 none) (v, xs) word (w, carried_after xs a))
+      exchanged word 1 2 (λ y. (w : View) × (a : Act Slot) × Valid t.homes xs a × ShowsOne job room (TryMakes 1 (MakesEvent job k (Claim n)) s word) (stepped t (node_at job.workers n) y id xs w a) × claimed (step slots (node_at job.workers n) 1 2 none) (v, xs) word (w, carried_after xs a))
       (λ one.
       let ready : s.node n ≡ Ready = ready_word (s.node n) (sym (o.words.progress n below) ∙ one) in (
         with_step (claiming n) v,
         keeps,
         tt,
-        found word 1 (IsEvent job k (Claim n)) one (job_step job room laws t o id k v (with_step (claiming n) v) (set t.words (node_at job.workers n) 2) (Claim n) (put s.node n IsTaken) s.mark s.value s.tick s.call (Run n)
+        found word 1 (MakesEvent job k (Claim n)) one (job_step job room laws t o id k v (with_step (claiming n) v) (set t.words (node_at job.workers n) 2) (Claim n) (put s.node n IsTaken) s.mark s.value s.tick s.call (Run n)
             record { worker_in = m.0; needs = (is_free job s k o.parts inside', m.1.task ∙ idle, ready); does = refl }
             me from to enrolled inside' inside'
             record { from = refl; to = refl; told = refl; left = refl; hold = refl; enrolled = refl; saw_done = refl; greatest = refl; before = refl; after = refl; book_seen = refl }
@@ -93,7 +93,7 @@ module _ (job : CoreJob) (room : ℕ) (laws : Laws job) (slots id : ℕ) (v : Vi
         with_found word (refusing n) v,
         keeps,
         tt,
-        missed word 1 (IsEvent job k (Claim n)) ne (looked job room t o id k (node_at job.workers n) v (with_found word (refusing n) v) me from to from to refl refl (λ h. inl h) (refused t o n word)),
+        missed word 1 (MakesEvent job k (Claim n)) ne (looked job room t o id k (node_at job.workers n) v (with_found word (refusing n) v) me from to from to refl refl (λ h. inl h) (refused t o n word)),
         (n, ap (λ (p : ℕ). node_at p n) (sym sized), (λ one. absurd (ne one)), (λ _. refl)),
       ))
 
@@ -107,7 +107,7 @@ module _ (job : CoreJob) (room : ℕ) (laws : Laws job) (slots id : ℕ) (v : Vi
   draws : (event : Event) (y : ℕ → Task) → v.own.call ≢ Out
       → ((tick : ℕ) → tick < 80000 → drawn (step slots (tick_at P) 1 0 none) (v, xs) tick (with_step (with_task event (y tick)) v, xs))
       → ((t : TableState) (o : Shows job room t) → get_elem? t.views id ≡ some v → Happens job o.state k event (record o.state { tick = o.state.tick + 1; task = put o.state.task k (y o.state.tick) }))
-      → Steps job room slots id (v, xs) (tick_at P) (λ n. (n + 1) % 2 ^ 64) (drawn (step slots (tick_at P) 1 0 none) (v, xs)) (λ before found after. IsEvent job k event before after)
+      → StepRefines job room slots id (v, xs) (tick_at P) (λ n. (n + 1) % 2 ^ 64) (drawn (step slots (tick_at P) 1 0 none) (v, xs)) (MakesEvent job k event)
   draws event y inside told happens t o wide me fits =
       let s = o.state in
       let word = get_or t.words (tick_at P) 0 in
@@ -133,7 +133,7 @@ module _ (job : CoreJob) (room : ℕ) (laws : Laws job) (slots id : ℕ) (v : Vi
   is_due one two due is = act_is job v one two known due is
 
   pub starts : (n leaf : ℕ) → TaskHere job v.own.task → next_act job v.own.task v.own.call ≡ Some (acts.Start n leaf) → v.own.call ≢ Out
-      → Steps job room slots id (v, xs) (tick_at P) (λ y. (y + 1) % 2 ^ 64) (drawn (step slots (tick_at P) 1 0 none) (v, xs)) (λ before found after. IsEvent job k (Start n) before after)
+      → StepRefines job room slots id (v, xs) (tick_at P) (λ y. (y + 1) % 2 ^ 64) (drawn (step slots (tick_at P) 1 0 none) (v, xs)) (MakesEvent job k (Start n))
   starts n leaf here due inside =
       let stands = next_stands job laws v.own.call v.own.task (acts.Start n leaf) here due in
       draws (Start n) (λ tick. Started n tick) inside
@@ -145,7 +145,7 @@ module _ (job : CoreJob) (room : ℕ) (laws : Laws job) (slots id : ℕ) (v : Vi
       (λ t o me. let m = mine_of job room t o id k v me from to in record { worker_in = m.0; needs = (is_free job o.state k o.parts (outside t o me inside), m.1.task ∙ stands.0, stands.1); does = refl })
 
   pub ends : (n start : ℕ) → TaskHere job v.own.task → next_act job v.own.task v.own.call ≡ Some (acts.End n start) → v.own.call ≢ Out
-      → Steps job room slots id (v, xs) (tick_at P) (λ y. (y + 1) % 2 ^ 64) (drawn (step slots (tick_at P) 1 0 none) (v, xs)) (λ before found after. IsEvent job k (End n start) before after)
+      → StepRefines job room slots id (v, xs) (tick_at P) (λ y. (y + 1) % 2 ^ 64) (drawn (step slots (tick_at P) 1 0 none) (v, xs)) (MakesEvent job k (End n start))
   ends n start here due inside =
       let stands = next_stands job laws v.own.call v.own.task (acts.End n start) here due in
       draws (End n start) (λ tick. Ended n start tick) inside
@@ -158,7 +158,7 @@ module _ (job : CoreJob) (room : ℕ) (laws : Laws job) (slots id : ℕ) (v : Vi
       (λ t o me. let m = mine_of job room t o id k v me from to in record { worker_in = m.0; needs = (is_free job o.state k o.parts (outside t o me inside), m.1.task ∙ stands); does = refl })
 
   draws_by : (o : Maybe Next) → TaskHere job v.own.task → next_act job v.own.task v.own.call ≡ o → IsTickDue o → v.own.call ≢ Out
-      → Steps job room slots id (v, xs) (tick_at P) (λ y. (y + 1) % 2 ^ 64) (drawn (step slots (tick_at P) 1 0 none) (v, xs)) (λ before found after. (event : Event) × IsEvent job k event before after)
+      → StepRefines job room slots id (v, xs) (tick_at P) (λ y. (y + 1) % 2 ^ 64) (drawn (step slots (tick_at P) 1 0 none) (v, xs)) (λ before found after. (event : Event) × MakesEvent job k event before found after)
   draws_by (Some (acts.Start n leaf)) here due is inside t o wide me fits = let x = starts n leaf here due inside t o wide me fits in (x.0, x.1, x.2, (x.3.0, (Start n, x.3.1)), x.4)
   draws_by (Some (acts.End n start)) here due is inside t o wide me fits = let x = ends n start here due inside t o wide me fits in (x.0, x.1, x.2, (x.3.0, (End n start, x.3.1)), x.4)
   draws_by None here due is inside t o wide me fits = absurd is
@@ -171,7 +171,7 @@ module _ (job : CoreJob) (room : ℕ) (laws : Laws job) (slots id : ℕ) (v : Vi
 
   -- a tick that is due, at its start or its end
   pub draws_due : TaskHere job v.own.task → IsTickDue (next_act job v.own.task v.own.call) → v.own.call ≢ Out
-      → Steps job room slots id (v, xs) (tick_at P) (λ y. (y + 1) % 2 ^ 64) (drawn (step slots (tick_at P) 1 0 none) (v, xs)) (λ before found after. (event : Event) × IsEvent job k event before after)
+      → StepRefines job room slots id (v, xs) (tick_at P) (λ y. (y + 1) % 2 ^ 64) (drawn (step slots (tick_at P) 1 0 none) (v, xs)) (λ before found after. (event : Event) × MakesEvent job k event before found after)
   draws_due here due inside = draws_by (next_act job v.own.task v.own.call) here refl due inside
 
   -- a node that is not the root gets this progress
@@ -195,7 +195,7 @@ module _ (job : CoreJob) (room : ℕ) (laws : Laws job) (slots id : ℕ) (v : Vi
 
   -- a side of a block opens
   pub opens : (n : ℕ) (y : Task) (event : Event) → TaskHere job v.own.task → next_act job v.own.task v.own.call ≡ Some (acts.Open n y event) → v.own.call ≢ Out
-      → Steps job room slots id (v, xs) (node_at P n) (λ y. 1) (λ y. opened (step slots (node_at P n) 1 0 none) (v, xs) 1) (λ before found after. IsEvent job k event before after)
+      → StepRefines job room slots id (v, xs) (node_at P n) (λ y. 1) (λ y. opened (step slots (node_at P n) 1 0 none) (v, xs) 1) (MakesEvent job k event)
   opens n y event here due inside t o wide me fits =
       let m = mine_of job room t o id k v me from to in
       let stands = next_stands job laws v.own.call v.own.task (acts.Open n y event) here due in
@@ -212,7 +212,7 @@ module _ (job : CoreJob) (room : ℕ) (laws : Laws job) (slots id : ℕ) (v : Vi
 
   -- a value is kept
   pub keeps_value : (i n start x : ℕ) → i ≡ value_at P N n → v.own.task ≡ Started n start → n < N → value_in (job.act (leaf_of (job.plan.kind n))) v.own.call ≡ Some x → v.own.call ≢ Out
-      → Steps job room slots id (v, xs) i (λ y. x) (λ y. kept (step slots i x 0 none) (v, xs) x) (λ before found after. IsEvent job k (Keep n start x) before after)
+      → StepRefines job room slots id (v, xs) i (λ y. x) (λ y. kept (step slots i x 0 none) (v, xs) x) (MakesEvent job k (Keep n start x))
   keeps_value i n start x at task below is inside t o wide me fits =
       let s = o.state in
       let m = mine_of job room t o id k v me from to in
@@ -232,8 +232,8 @@ module _ (job : CoreJob) (room : ℕ) (laws : Laws job) (slots id : ℕ) (v : Vi
 
   -- a leaf or a block is done
   pub finishes : (n : ℕ) (event : Event) → TaskHere job v.own.task → next_act job v.own.task v.own.call ≡ Some (acts.Finish n event) → v.own.call ≢ Out
-      → Steps job room slots id (v, xs) (node_at P n) (λ y. progress_code (progress_after k v.own.task))
-      (λ y. finished (step slots (node_at P n) (progress_code (progress_after k v.own.task)) 0 none) (v, xs) (progress_code (progress_after k v.own.task))) (λ before found after. IsEvent job k event before after)
+      → StepRefines job room slots id (v, xs) (node_at P n) (λ y. progress_code (progress_after k v.own.task))
+      (λ y. finished (step slots (node_at P n) (progress_code (progress_after k v.own.task)) 0 none) (v, xs) (progress_code (progress_after k v.own.task))) (MakesEvent job k event)
   finishes n event here due inside t o wide me fits =
       let m = mine_of job room t o id k v me from to in
       let stands = next_stands job laws v.own.call v.own.task (acts.Finish n event) here due in
@@ -253,7 +253,7 @@ module _ (job : CoreJob) (room : ℕ) (laws : Laws job) (slots id : ℕ) (v : Vi
 
   -- a side arrives at a parallel block
   pub arrives : (i p l r n : ℕ) → i ≡ mark_at P N p → TaskHere job v.own.task → next_act job v.own.task v.own.call ≡ Some (acts.Arrive p l r n) → v.own.call ≢ Out
-      → Steps job room slots id (v, xs) i (λ y. (y + 1) % 2 ^ 64) (arrived (step slots i 1 0 none) (v, xs)) (ArrivalMakes (IsEvent job k (ArriveFirst p l r n)) (IsEvent job k (ArriveSecond p l r n)))
+      → StepRefines job room slots id (v, xs) i (λ y. (y + 1) % 2 ^ 64) (arrived (step slots i 1 0 none) (v, xs)) (ArrivalMakes (MakesEvent job k (ArriveFirst p l r n)) (MakesEvent job k (ArriveSecond p l r n)))
   arrives i p l r n is here due inside t o wide me fits =
       let (task, kind, side) = next_stands job laws v.own.call v.own.task (acts.Arrive p l r n) here due in
       let below = block_in job.plan p (ParNode l r) laws.plan kind in
@@ -271,7 +271,7 @@ module _ (job : CoreJob) (room : ℕ) (laws : Laws job) (slots id : ℕ) (v : Vi
           first,
           keeps,
           tt,
-          found_none word (IsEvent job k (ArriveFirst p l r n)) (IsEvent job k (ArriveSecond p l r n)) zero (job_step job room laws t o id k v first (set t.words i (arrived_word word)) (ArriveFirst p l r n) s.node (put s.mark p 1) s.value s.tick s.call Idle
+          found_none word (MakesEvent job k (ArriveFirst p l r n)) (MakesEvent job k (ArriveSecond p l r n)) zero (job_step job room laws t o id k v first (set t.words i (arrived_word word)) (ArriveFirst p l r n) s.node (put s.mark p 1) s.value s.tick s.call Idle
               record { worker_in = m.0; needs = (free, m.1.task ∙ task, kind, side, sym at ∙ zero); does = refl }
               me from to enrolled (outside t o me inside) (outside t o me inside) (same first refl refl refl refl refl refl refl refl refl refl refl) record { events = refl; stops = refl; found = refl } far_stop refl m.1.call (λ z ne. refl) (λ done. done)
               (subst (λ (j : ℕ). WordsShow P N (set t.words j (arrived_word word)) s.node (put s.mark p 1) s.value s.status s.hold s.tick (length s.book)) (sym is) (subst (λ (z : ℕ). WordsShow P N (set t.words (mark_at P N p) z) s.node (put s.mark p 1) s.value s.status s.hold s.tick (length s.book)) (let one : arrived_word word ≡ 1 = omega (arith, zero) in sym one)
@@ -284,7 +284,7 @@ module _ (job : CoreJob) (room : ℕ) (laws : Laws job) (slots id : ℕ) (v : Vi
           second,
           keeps,
           tt,
-          found_one word (IsEvent job k (ArriveFirst p l r n)) (IsEvent job k (ArriveSecond p l r n)) ne (job_step job room laws t o id k v second (set t.words i (arrived_word word)) (ArriveSecond p l r n) s.node (put s.mark p 2) s.value s.tick s.call (Handed p)
+          found_one word (MakesEvent job k (ArriveFirst p l r n)) (MakesEvent job k (ArriveSecond p l r n)) ne (job_step job room laws t o id k v second (set t.words i (arrived_word word)) (ArriveSecond p l r n) s.node (put s.mark p 2) s.value s.tick s.call (Handed p)
               record { worker_in = m.0; needs = (free, m.1.task ∙ task, kind, side, omega (arith, at, few, ne)); does = refl }
               me from to enrolled (outside t o me inside) (outside t o me inside) (same second refl refl refl refl refl refl refl refl refl refl refl) record { events = refl; stops = refl; found = refl } far_stop refl m.1.call (λ z ne'. refl) (λ done. done)
               (subst (λ (j : ℕ). WordsShow P N (set t.words j (arrived_word word)) s.node (put s.mark p 2) s.value s.status s.hold s.tick (length s.book)) (sym is) (subst (λ (z : ℕ). WordsShow P N (set t.words (mark_at P N p) z) s.node (put s.mark p 2) s.value s.status s.hold s.tick (length s.book)) (let two : arrived_word word ≡ 2 = omega (arith, at, few, ne) in sym two)

@@ -22,7 +22,7 @@ use Rattle.table_rule.specs.declared.view.View.{View}
 use Rattle.table_rule.specs.declared.slot.Slot.{Slot}
 use Rattle.table_rule.specs.Words.{node_at, value_at, count_at, stop_at, progress_code, status_code, HasValue}
 use Rattle.table_rule.specs.Laws.{Laws}
-use Rattle.table_rule.specs.Steps.{ShowsOne, Steps, Stutters}
+use Rattle.table_rule.specs.Steps.{ShowsOne, StepRefines, Stutters}
 use Rattle.table_rule.specs.Shows.{TableState, Shows, SinceKnown}
 use Rattle.table_rule.specs.Plays.{looked_at_root, looked_at_value, heard, strayed, stopped_all, looked_at_stop}
 use Rattle.table_rule.specs.Passes.{finding_stop, finding_none, refusing, least_told, stopping, telling}
@@ -59,7 +59,7 @@ module _ (job : CoreJob) (room : ℕ) (laws : Laws job) (slots id : ℕ) (v : Vi
   abbrev P : ℕ
   P = job.workers
 
-  pub looks_at_root : (i : ℕ) → v.workers ≡ P → i ≡ node_at P 0 → 0 < job.plan.count → Steps job room slots id (v, xs) i (λ y. y) (looked_at_root (step slots i 0 0 none) (v, xs)) (Stutters)
+  pub looks_at_root : (i : ℕ) → v.workers ≡ P → i ≡ node_at P 0 → 0 < job.plan.count → StepRefines job room slots id (v, xs) i (λ y. y) (looked_at_root (step slots i 0 0 none) (v, xs)) (Stutters)
   looks_at_root i sized is any t o wide me fits =
       let word = get_or t.words i 0 in
       let at = ap (λ (j : ℕ). get_or t.words j 0) is ∙ o.words.progress 0 any in elim (cases_eq (word % 4) 3) [
@@ -98,7 +98,7 @@ module _ (job : CoreJob) (room : ℕ) (laws : Laws job) (slots id : ℕ) (v : Vi
     ];
   }
 
-  pub hears : v.workers ≡ P → Steps job room slots id (v, xs) (count_at P) (λ y. y) (heard (step slots (count_at P) 0 0 none) (v, xs)) (Stutters)
+  pub hears : v.workers ≡ P → StepRefines job room slots id (v, xs) (count_at P) (λ y. y) (heard (step slots (count_at P) 0 0 none) (v, xs)) (Stutters)
   hears sized t o wide me fits =
       let word = get_or t.words (count_at P) 0 in (
         with_since word v,
@@ -110,7 +110,7 @@ module _ (job : CoreJob) (room : ℕ) (laws : Laws job) (slots id : ℕ) (v : Vi
       )
 
   -- a claim past the last node: a status is at most 3, so the exchange, which wants at least 4, is refused
-  pub strays : (n : ℕ) → v.nodes ≤ n → 0 < P → Steps job room slots id (v, xs) 0 (λ y. either (eqb y (4 + n)) 0 y) (strayed (step slots 0 (4 + n) 0 none) (v, xs)) (Stutters)
+  pub strays : (n : ℕ) → v.nodes ≤ n → 0 < P → StepRefines job room slots id (v, xs) 0 (λ y. either (eqb y (4 + n)) 0 y) (strayed (step slots 0 (4 + n) 0 none) (v, xs)) (Stutters)
   strays n far any t o wide me fits =
       let word = get_or t.words 0 0 in
       let few = few_status (o.state.status 0) in
@@ -128,7 +128,7 @@ module _ (job : CoreJob) (room : ℕ) (laws : Laws job) (slots id : ℕ) (v : Vi
 
   -- the value of the source of the leaf that has started is looked at
   pub looks_at_value : (i n start leaf source : ℕ) → v.workers ≡ P → v.nodes ≡ job.plan.count → v.own.task ≡ Started n start → job.plan.kind n ≡ Some (LeafNode leaf) → job.source leaf ≡ Some source → i ≡ value_at P job.plan.count (job.plan.node_of source)
-      → Steps job room slots id (v, xs) i (λ y. y) (looked_at_value (step slots i 0 0 none) (v, xs)) (Stutters)
+      → StepRefines job room slots id (v, xs) i (λ y. y) (looked_at_value (step slots i 0 0 none) (v, xs)) (Stutters)
   looks_at_value i n start leaf source sized long task kind has is t o wide me fits =
       let s = o.state in
       let word = get_or t.words i 0 in
@@ -158,7 +158,7 @@ module _ (job : CoreJob) (room : ℕ) (laws : Laws job) (slots id : ℕ) (v : Vi
       )
 
   -- the stop word is set
-  pub stops : v.workers ≡ P → Steps job room slots id (v, xs) (stop_at P) (λ y. 1) (λ y. stopped_all (step slots (stop_at P) 1 0 none) (v, xs) 1) (Stutters)
+  pub stops : v.workers ≡ P → StepRefines job room slots id (v, xs) (stop_at P) (λ y. 1) (λ y. stopped_all (step slots (stop_at P) 1 0 none) (v, xs) 1) (Stutters)
   stops sized t o wide me fits =
       let s = o.state in (
         with_step stopping v,
@@ -172,7 +172,7 @@ module _ (job : CoreJob) (room : ℕ) (laws : Laws job) (slots id : ℕ) (v : Vi
       )
 
   -- and looked at
-  pub looks_at_stop : v.workers ≡ P → Steps job room slots id (v, xs) (stop_at P) (λ y. y) (looked_at_stop (step slots (stop_at P) 0 0 none) (v, xs)) (Stutters)
+  pub looks_at_stop : v.workers ≡ P → StepRefines job room slots id (v, xs) (stop_at P) (λ y. y) (looked_at_stop (step slots (stop_at P) 0 0 none) (v, xs)) (Stutters)
   looks_at_stop sized t o wide me fits = elim (cases_eq (get_or t.words (stop_at P) 0) 1) [
     | inl e ↦ (with_step finding_stop v, keeps, tt, looked job room t o id k (stop_at P) v (with_step finding_stop v) me from to from to refl refl (λ _. inr e) (λ m. again job o.state (get_elem? t.homes k) (o.seat k) id v _ k record { task = refl; call = refl; told = refl; posted = refl; left = refl; enrolled = refl; saw_done = refl; greatest = refl; before = refl; after = refl; book_seen = refl } refl m), ((λ _. refl), (λ ne. absurd (ne e)), ap stop_at (sym sized)))
     | inr ne ↦ (with_found (get_or t.words (stop_at P) 0) finding_none v, keeps, tt, looked job room t o id k (stop_at P) v (with_found (get_or t.words (stop_at P) 0) finding_none v) me from to from to refl refl (λ h. inl h) (λ m. again job o.state (get_elem? t.homes k) (o.seat k) id v _ k record { task = refl; call = refl; told = refl; posted = refl; left = refl; enrolled = refl; saw_done = refl; greatest = refl; before = refl; after = refl; book_seen = refl } refl m), ((λ e. absurd (ne e)), (λ _. refl), ap stop_at (sym sized)))

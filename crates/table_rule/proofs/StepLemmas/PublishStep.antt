@@ -17,6 +17,7 @@ use Rattle.core_model.specs.Invariant.Statuses.{is_taken_by}
 use Rattle.core_model.specs.declared.status.Status.TheVariants.{Free, Pending, Executing, Served}
 use Rattle.core_model.specs.Invariant.{Parts}
 use Rattle.core_model.specs.Waits.{task_place}
+use Rattle.table_rule.proofs.ListLemmas.CallCounts.{room_few}
 use Rattle.table_rule.proofs.ListLemmas.Lists.{each_so, each_mapped}
 use Rattle.core_model.specs.Measure.{call_count}
 use Rattle.core_model.specs.Entries.{entries_of}
@@ -27,7 +28,7 @@ use Rattle.table_rule.specs.declared.slot.Slot.{Slot}
 use Rattle.table_rule.specs.declared.slot.Slot.TheVariants as Slots
 use Rattle.table_rule.specs.Words.{stop_at, count_at, WordsShow}
 use Rattle.table_rule.specs.Laws.{Laws}
-use Rattle.table_rule.specs.Steps.{Steps, Stutters, IsEvent}
+use Rattle.table_rule.specs.Steps.{StepRefines, Stutters, MakesEvent}
 use Rattle.table_rule.specs.Shows.{reserved, SlotHome, IsRecordOf, RecordAt, ShopAt, record_in, among, hold_of, HoldKnown, entry_of, present, SinceKnown, IsFront, AgreesWithView}
 use Rattle.table_rule.specs.Batches.{call_of, ServesTaken, IsPublishDue}
 use Rattle.table_rule.specs.Passes as W
@@ -164,6 +165,14 @@ batches_in (Slots.Book book) = book.batches
 batches_same : (a b : List (List Entry)) (r : ℕ) → Slots.Book (reserved a r) ≡ Slots.Book (reserved b r) → a ≡ b
 batches_same a b r e = ap batches_in e
 
+-- a book has fewer than 40000 batches
+few_batches : (job : CoreJob) (laws : Laws job) (s : State) → Parts job s → length s.book < 40000
+few_batches job laws s parts =
+    let most = laws.batches s parts in
+    let room = laws.room s [] parts tt tt in
+    let calls = room_few job in
+    omega (arith, most, room, calls, laws.few)
+
 publish_does : (s : State) (k : ℕ) (h : HoldView) (batch : List Entry) → s.hold ≡ Some (hold_of k h) → published s.hold ≡ Some (hold_of k (W.after_publish batch h))
 publish_does s k h batch held = rw held refl
 
@@ -183,21 +192,18 @@ module _ (job : CoreJob) (room : ℕ) (laws : Laws job) (slots id : ℕ) (v : Vi
   last_same (x ∷ xs) [] a b e f = absurd (cc)
   last_same (x ∷ xs) (y ∷ ys) a b e f = let e' : xs ++ a ∷ [] ≡ ys ++ b ∷ [] = cc in let f' : xs ≡ ys = cc in last_same xs ys a b e' f'
 
-  -- the state that a publish makes of the one that is shown
-  record Published (s : State) (h : HoldView) (batch : List Entry) : Type 0 where
-    pub of_batch : IsBatchOf job s batch
-    pub happens : Happens job s k Publish (record s { book = s.book ++ batch ∷ []; objects = served s.objects batch; hold = published s.hold })
-
-  can_publish : (s : State) (h : HoldView) (batch : List Entry) → Parts job s → k < job.workers → HoldKnown job s (Some h) k → IsPublishDue job.workers h batch → Published s h batch
+  -- the event of a publish that is due
+  can_publish : (s : State) (h : HoldView) (batch : List Entry) → Parts job s → k < job.workers → HoldKnown job s (Some h) k → IsPublishDue job.workers h batch
+      → Happens job s k Publish (record s { book = s.book ++ batch ∷ []; objects = served s.objects batch; hold = published s.hold })
   can_publish s h batch parts low known due =
-      let told : (u : ℕ) → among h.answered u ≡ false = λ u. told_none job s k h parts known.0 due.early u in
-      let batch_of = to_batch job s k h batch parts known.0 known.1 told known.2 due.serves in record {
-        of_batch = batch_of;
-        happens = record { worker_in = low; needs = (hold_of k h, (known.0, refl), due.looked, due.some, due.early); does = (batch, batch_of, refl) };
+      let told : (u : ℕ) → among h.answered u ≡ false = λ u. told_none job s k h parts known.0 due.early u in record {
+        worker_in = low;
+        needs = (hold_of k h, (known.0, refl), due.looked, due.some, due.early);
+        does = (batch, to_batch job s k h batch parts known.0 known.1 told known.2 due.serves, refl);
       }
 
   -- the look before a publish: the book has room for the batch, and stays a history with it
-  pub admits : (i : ℕ) → v.workers ≡ job.workers → v.room ≡ call_count job → job.workers ≤ 32 → Steps job room slots id (v, xs) i (λ y. y) (G.admitted (step slots i 0 0 none) (v, xs)) (Stutters)
+  pub admits : (i : ℕ) → v.workers ≡ job.workers → v.room ≡ call_count job → job.workers ≤ 32 → StepRefines job room slots id (v, xs) i (λ y. y) (G.admitted (step slots i 0 0 none) (v, xs)) (Stutters)
   admits i sized roomy few t o wide me fits =
       let s = o.state in
       let m = mine_of job room t o id k v me from to in (
@@ -210,21 +216,21 @@ module _ (job : CoreJob) (room : ℕ) (laws : Laws job) (slots id : ℕ) (v : Vi
           λ h batch holds due'.
               let due = subst (λ (y : ℕ). IsPublishDue y h batch) sized due' in
               let known = subst (λ (z : Maybe HoldView). HoldKnown job s z k) holds m.1.hold in
-              let can = can_publish s h batch o.parts m.0 known due in
-              let later = laws.keeps s (record s { book = s.book ++ batch ∷ []; objects = served s.objects batch; hold = published s.hold }) k Publish o.parts can.happens in
-              let whole = is_history job laws (record s { book = s.book ++ batch ∷ []; objects = served s.objects batch; hold = published s.hold }) few later in
-              let most = laws.batches (record s { book = s.book ++ batch ∷ []; objects = served s.objects batch; hold = published s.hold }) later in
-              let room = laws.room (record s { book = s.book ++ batch ∷ []; objects = served s.objects batch; hold = published s.hold }) [] later tt tt in
+              let new : State = record s { book = s.book ++ batch ∷ []; objects = served s.objects batch; hold = published s.hold } in
+              let later = laws.keeps s new k Publish o.parts (can_publish s h batch o.parts m.0 known due) in
+              let whole = is_history job laws new few later in
+              let most = laws.batches new later in
+              let room = laws.room new [] later tt tt in
               let long = length-append s.book (batch ∷ []) in
               let same = ap (λ (b : List (List Entry)). length b) known.1 in
               (subst (λ (b : List (List Entry)). IsHistory (b ++ batch ∷ [])) known.1 whole, omega (arith, most, room, long, same, roomy)),
         ),
       )
 
-  pub publishes : (h : HoldView) (batch : List Entry) → v.own.hold ≡ Some h → v.room ≡ room → IsPublishDue job.workers h batch → length h.book < 2 ^ 32
-      → Steps job room slots id (v, (count_at P, Slots.Book (reserved (h.book ++ batch ∷ []) room)) ∷ xs) (count_at P) (λ y. (y + 1) % 2 ^ 64)
-      (G.published (step slots (count_at P) 1 0 none) (v, (count_at P, Slots.Book (reserved (h.book ++ batch ∷ []) room)) ∷ xs)) (λ before found after. IsEvent job k Publish before after)
-  publishes h batch holds roomy due few t o wide me fits =
+  pub publishes : (h : HoldView) (batch : List Entry) → v.own.hold ≡ Some h → v.room ≡ room → IsPublishDue job.workers h batch
+      → StepRefines job room slots id (v, (count_at P, Slots.Book (reserved (h.book ++ batch ∷ []) room)) ∷ xs) (count_at P) (λ y. (y + 1) % 2 ^ 64)
+      (G.published (step slots (count_at P) 1 0 none) (v, (count_at P, Slots.Book (reserved (h.book ++ batch ∷ []) room)) ∷ xs)) (MakesEvent job k Publish)
+  publishes h batch holds roomy due t o wide me fits =
       let s = o.state in
       let book = reserved (h.book ++ batch ∷ []) room in
       let word = get_or t.words (count_at P) 0 in
@@ -232,18 +238,16 @@ module _ (job : CoreJob) (room : ℕ) (laws : Laws job) (slots id : ℕ) (v : Vi
       let known = subst (λ (z : Maybe HoldView). HoldKnown job s z k) holds m.1.hold in
       let hd = hold_of k h in
       let held : s.hold ≡ Some hd = known.0 in
-      let early = due.early in
-      let can = can_publish s h batch o.parts m.0 known due in
-      let batch_of = can.of_batch in
       let f = W.after_publish batch in
       let h' = f h in
       let w : View = V.with_step (W.publishing batch) v in
       let new : State = record s { book = s.book ++ batch ∷ []; objects = served s.objects batch; hold = published s.hold } in
       let hold_new : published s.hold ≡ Some (hold_of k h') = publish_does s k h batch held in
-      let happens : Happens job s k Publish new = can.happens in
+      let happens : Happens job s k Publish new = can_publish s h batch o.parts m.0 known due in
       let parts_later = laws.keeps s new k Publish o.parts happens in
       let long : length (s.book ++ batch ∷ []) ≡ length s.book + 1 = length-append s.book (batch ∷ []) in
-      let count : (word + 1) % 2 ^ 64 ≡ length (s.book ++ batch ∷ []) = let a = ap (λ (b : List (List Entry)). length b) known.1 in omega (arith, long, o.words.batches, few, a) in
+      let few : length s.book < 40000 = few_batches job laws s o.parts in
+      let count : (word + 1) % 2 ^ 64 ≡ length (s.book ++ batch ∷ []) = omega (arith, long, o.words.batches, few) in
       let homes = set t.homes (count_at P) (some (Slots.Book book)) in
       let far : (x : ℕ) → x < P → get_elem? homes x ≡ get_elem? t.homes x = λ x low. set_else t.homes (P + 1) x (some (Slots.Book book)) (λ e. omega arith) in (
         w,
@@ -272,7 +276,7 @@ module _ (job : CoreJob) (room : ℕ) (laws : Laws job) (slots id : ℕ) (v : Vi
             λ i. (V.with_step (W.publishing (c' i)) v, xs),
       )
 
-  pub publishes_at : (g : G.SeatState) (h : HoldView) (batch : List Entry) → g ≡ (v, (count_at P, Slots.Book (reserved (h.book ++ batch ∷ []) room)) ∷ xs) → v.own.hold ≡ Some h → v.room ≡ room → IsPublishDue job.workers h batch → length h.book < 2 ^ 32
-      → Steps job room slots id g (count_at P) (λ y. (y + 1) % 2 ^ 64) (G.published (step slots (count_at P) 1 0 none) g) (λ before found after. IsEvent job k Publish before after)
-  publishes_at g h batch e holds roomy due few =
-      subst (λ (g : G.SeatState). Steps job room slots id g (count_at P) (λ y. (y + 1) % 2 ^ 64) (G.published (step slots (count_at P) 1 0 none) g) (λ before found after. IsEvent job k Publish before after)) (sym e) (publishes h batch holds roomy due few)
+  pub publishes_at : (g : G.SeatState) (h : HoldView) (batch : List Entry) → g ≡ (v, (count_at P, Slots.Book (reserved (h.book ++ batch ∷ []) room)) ∷ xs) → v.own.hold ≡ Some h → v.room ≡ room → IsPublishDue job.workers h batch
+      → StepRefines job room slots id g (count_at P) (λ y. (y + 1) % 2 ^ 64) (G.published (step slots (count_at P) 1 0 none) g) (MakesEvent job k Publish)
+  publishes_at g h batch e holds roomy due =
+      subst (λ (g : G.SeatState). StepRefines job room slots id g (count_at P) (λ y. (y + 1) % 2 ^ 64) (G.published (step slots (count_at P) 1 0 none) g) (MakesEvent job k Publish)) (sym e) (publishes h batch holds roomy due)

@@ -10,7 +10,7 @@ use Rattle.atomic_table.proofs.Lists.{at_set, set_here, set_else, at_longer, at_
 use Rattle.core_model.specs.declared.progress.Progress.TheVariants.{Waiting, Ready}
 use Rattle.core_model.specs.declared.status.Status.{Status}
 use Rattle.core_model.specs.declared.status.Status.TheVariants.{Free}
-use Rattle.core_model.specs.State.{put, CoreJob, Hold, opening_state}
+use Rattle.core_model.specs.State.{put, CoreJob, Hold, State, opening_state}
 use Rattle.table_rule.specs.declared.view.View.{View}
 use Rattle.table_rule.specs.declared.slot.Slot.{Slot}
 use Rattle.table_rule.specs.declared.slot.Slot.TheVariants as Slots
@@ -26,6 +26,7 @@ use Rattle.table_rule.proofs.TableLemmas.Traces.{agree_still, stop_still, stop_c
 use Rattle.table_rule.specs.Shows.{reserved, SlotHome, RecordAt, AgreesWithView, HasSeat, EventsAgree, StopShows, Shows}
 use Rattle.table_rule.specs.Views.{newcomer}
 use Rattle.table_rule.specs.Plays.{enrolled}
+use Rattle.table_rule.specs.Steps.{ShowsOne, StepRefines, SplitStutters, Stutters}
 use Rattle.table_rule.specs.Views.{enrolling, pass_of, rest_of}
 use Rattle.table_rule.proofs.TableLemmas.Words.{put_at, put_other, set_node}
 use Rattle.table_rule.proofs.TableLemmas.Facts.{is_free}
@@ -107,52 +108,55 @@ stop_both views id v word me =
     ])
 
 -- a pass is split off
-pub cuts : (job : CoreJob) (room id : ℕ) (v : View) → v.own.worker < v.to → Splits (Shows job room) id v (rest_of v) (pass_of v)
-cuts job room id v some_left t o me =
+pub splits : (job : CoreJob) (room id : ℕ) (v : View) → v.own.worker < v.to → SplitStutters job room id v
+splits job room id v some_left t o me =
     let z = length t.views in
     let seat : ℕ → ℕ = put o.seat v.own.worker z in
-    let here = o.views id v v.own.worker me (omega arith) some_left in record {
-      state = o.state;
-      seat = seat;
-      parts = o.parts;
-      words = o.words;
-      slots = o.slots;
-      views = λ i u x e lo hi. ⊎_elim
-          (λ q. ⊎_elim
-          (λ r.
-          let lo' : v.own.worker + 1 ≤ x = subst (λ (y : View). y.own.worker ≤ x) (sym r.1) lo in
-          let hi' : x < v.to = subst (λ (y : View). x < y.to) (sym r.1) hi in
-          let was = o.views id v x me (omega arith) hi' in (
-            was.0,
-            subst (λ (y : View). AgreesWithView job o.state (get_elem? t.homes x) (seat x) i y x) r.1
-                (reseat job o.state (get_elem? t.homes x) (o.seat x) (seat x) id i v (rest_of v) x (put_other o.seat v.own.worker x z (λ h. omega arith) ∙ (was.1.sits ∙ sym r.0)) (told_cut v (v.own.worker + 1) v.to) refl was.1),
-          ))
-          (λ r.
-          let was = o.views i u x r.1 lo hi in
-          (was.0, reseat job o.state (get_elem? t.homes x) (o.seat x) (seat x) i i u u x (put_other o.seat v.own.worker x z (λ h. r.0 (sym was.1.sits ∙ (ap o.seat h ∙ here.1.sits))) ∙ was.1.sits) (told_again u) refl was.1))
-          (at_set t.views id i (rest_of v) u q))
-          (λ q.
-          let lo' : v.own.worker ≤ x = subst (λ (y : View). y.own.worker ≤ x) (sym q.0) lo in
-          let hi' : x < v.own.worker + 1 = subst (λ (y : View). x < y.to) (sym q.0) hi in
-          let is : x ≡ v.own.worker = omega arith in (
-            subst (λ (y : ℕ). y < job.workers) (sym is) here.0,
-            subst (λ (y : View). AgreesWithView job o.state (get_elem? t.homes x) (seat x) i y x) q.0
-                (subst (λ (y : ℕ). AgreesWithView job o.state (get_elem? t.homes y) (seat y) i (pass_of v) y) (sym is)
-                (reseat job o.state (get_elem? t.homes v.own.worker) (o.seat v.own.worker) (seat v.own.worker) id i v (pass_of v) v.own.worker
-                (put_at o.seat v.own.worker v.own.worker z refl ∙ (sym (length-set t.views id (rest_of v)) ∙ sym q.1)) (told_cut v v.own.worker (v.own.worker + 1)) refl here.1)),
-          ))
-          (at_snoc_at (set t.views id (rest_of v)) (pass_of v) u i e);
-      seats = λ x low. seat_cut t.views id x o.seat v me (o.seats x low);
-      trace = o.trace;
-      ready = o.ready;
-      reached = o.reached;
-      events = agree_cut t.views id v o.trace me some_left o.events;
-      stop = stop_both t.views id v (get_or t.words (stop_at job.workers) 0) me o.stop;
-    }
+    let here = o.views id v v.own.worker me (omega arith) some_left in (
+      record {
+        state = o.state;
+        seat = seat;
+        parts = o.parts;
+        words = o.words;
+        slots = o.slots;
+        views = λ i u x e lo hi. ⊎_elim
+            (λ q. ⊎_elim
+            (λ r.
+            let lo' : v.own.worker + 1 ≤ x = subst (λ (y : View). y.own.worker ≤ x) (sym r.1) lo in
+            let hi' : x < v.to = subst (λ (y : View). x < y.to) (sym r.1) hi in
+            let was = o.views id v x me (omega arith) hi' in (
+              was.0,
+              subst (λ (y : View). AgreesWithView job o.state (get_elem? t.homes x) (seat x) i y x) r.1
+                  (reseat job o.state (get_elem? t.homes x) (o.seat x) (seat x) id i v (rest_of v) x (put_other o.seat v.own.worker x z (λ h. omega arith) ∙ (was.1.sits ∙ sym r.0)) (told_cut v (v.own.worker + 1) v.to) refl was.1),
+            ))
+            (λ r.
+            let was = o.views i u x r.1 lo hi in
+            (was.0, reseat job o.state (get_elem? t.homes x) (o.seat x) (seat x) i i u u x (put_other o.seat v.own.worker x z (λ h. r.0 (sym was.1.sits ∙ (ap o.seat h ∙ here.1.sits))) ∙ was.1.sits) (told_again u) refl was.1))
+            (at_set t.views id i (rest_of v) u q))
+            (λ q.
+            let lo' : v.own.worker ≤ x = subst (λ (y : View). y.own.worker ≤ x) (sym q.0) lo in
+            let hi' : x < v.own.worker + 1 = subst (λ (y : View). x < y.to) (sym q.0) hi in
+            let is : x ≡ v.own.worker = omega arith in (
+              subst (λ (y : ℕ). y < job.workers) (sym is) here.0,
+              subst (λ (y : View). AgreesWithView job o.state (get_elem? t.homes x) (seat x) i y x) q.0
+                  (subst (λ (y : ℕ). AgreesWithView job o.state (get_elem? t.homes y) (seat y) i (pass_of v) y) (sym is)
+                  (reseat job o.state (get_elem? t.homes v.own.worker) (o.seat v.own.worker) (seat v.own.worker) id i v (pass_of v) v.own.worker
+                  (put_at o.seat v.own.worker v.own.worker z refl ∙ (sym (length-set t.views id (rest_of v)) ∙ sym q.1)) (told_cut v v.own.worker (v.own.worker + 1)) refl here.1)),
+            ))
+            (at_snoc_at (set t.views id (rest_of v)) (pass_of v) u i e);
+        seats = λ x low. seat_cut t.views id x o.seat v me (o.seats x low);
+        trace = o.trace;
+        ready = o.ready;
+        reached = o.reached;
+        events = agree_cut t.views id v o.trace me some_left o.events;
+        stop = stop_both t.views id v (get_or t.words (stop_at job.workers) 0) me o.stop;
+      },
+      refl,
+    )
 
 -- a pass takes its own record slot
 pub enrols : (job : CoreJob) (room : ℕ) (slots id j : ℕ) (v : View) (xs : List (ℕ × Slot)) (k : ℕ) → v.own.worker ≡ k → v.to ≡ k + 1 → v.enrolled ≡ false
-    → Allows (Shows job room) slots id (v, xs) j (λ y. y) (enrolled (step slots j 0 0 none) (v, xs))
+    → StepRefines job room slots id (v, xs) j (λ y. y) (enrolled (step slots j 0 0 none) (v, xs)) Stutters
 enrols job room slots id j v xs k from to fresh t o wide me fits =
     let s = o.state in
     let m = mine_of job room t o id k v me from to in
@@ -163,54 +167,57 @@ enrols job room slots id j v xs k from to fresh t o wide me fits =
       w,
       takes k Slots.Vacant,
       new.0,
-      subst (λ (ws : List ℕ). Shows job room record { words = ws; homes = homes; views = set t.views id w }) (sym (set-get_or t.words j 0)) record {
-        state = s;
-        seat = o.seat;
-        parts = o.parts;
-        words = o.words;
-        slots = record {
-          wide = length-set t.homes k none ∙ o.slots.wide;
-          records = λ u low. elim (cases_eq u k) [
-            | inl e ↦ subst (λ (y : ℕ). RecordAt job s.book (s.task y) (s.status y) (get_elem? homes y)) (sym e) (subst (λ (st : Status). RecordAt job s.book (s.task k) st (get_elem? homes k)) (sym free) tt)
-            | inr ne ↦ rw (set_else t.homes k u none ne) (o.slots.records u low)
-          ];
-          shop = rw (set_else t.homes k job.workers none (λ e. let a = m.0 in omega arith)) o.slots.shop;
-          batches = rw (set_else t.homes k (job.workers + 1) none (λ e. let a = m.0 in omega arith)) o.slots.batches;
-        };
-        views = λ i u x e lo hi. ⊎_elim
-            (λ q.
-            let lo' : w.own.worker ≤ x = subst (λ (y : View). y.own.worker ≤ x) (sym q.1) lo in
-            let hi' : x < w.to = subst (λ (y : View). x < y.to) (sym q.1) hi in
-            let is : x ≡ k = omega arith in (
-              subst (λ (y : ℕ). y < job.workers) (sym is) m.0,
-              subst (λ (y : ℕ). AgreesWithView job s (get_elem? homes y) (o.seat y) i u y) (sym is)
-                  (subst (λ (j : ℕ). AgreesWithView job s (get_elem? homes k) (o.seat k) j u k) (sym q.0) (subst (λ (y : View). AgreesWithView job s (get_elem? homes k) (o.seat k) id y k) q.1
-                  record {
-                    sits = m.1.sits;
-                    task = m.1.task;
-                    call = m.1.call;
-                    posted = m.1.posted;
-                    told = m.1.told;
-                    hold = m.1.hold;
-                    entries = m.1.entries;
-                    new = λ e. absurd (cc);
-                    done = m.1.done;
-                    seen = m.1.seen;
-                    since = record { most = m.1.since.most; early = m.1.since.early; late = m.1.since.late; placed = m.1.since.placed; waits = m.1.since.waits };
-                  })),
-            ))
-            (λ q.
-            let was = o.views i u x q.1 lo hi in
-            let ne : x ≢ k = λ is. q.0 (sym was.1.sits ∙ (ap o.seat is ∙ m.1.sits)) in
-            (was.0, subst (λ (h : SlotHome). AgreesWithView job s h (o.seat x) i u x) (sym (set_else t.homes k x none ne)) was.1))
-            (at_set t.views id i w u e);
-        seats = λ x low. seat_stays t.views id k v w me from to from to (o.seat x) x (o.seats x low);
-        trace = o.trace;
-        ready = o.ready;
-        reached = o.reached;
-        events = agree_still t.views id k v w o.trace me from to from to refl o.events;
-        stop = stop_still t.views id v w (get_or t.words (stop_at job.workers) 0) (get_or t.words (stop_at job.workers) 0) (at_below t.views id v me) me refl refl (λ h. inl h) o.stop;
-      },
+      subst (λ (ws : List ℕ). ShowsOne job room (λ (after : State). after ≡ s) record { words = ws; homes = homes; views = set t.views id w }) (sym (set-get_or t.words j 0)) (
+        record {
+          state = s;
+          seat = o.seat;
+          parts = o.parts;
+          words = o.words;
+          slots = record {
+            wide = length-set t.homes k none ∙ o.slots.wide;
+            records = λ u low. elim (cases_eq u k) [
+              | inl e ↦ subst (λ (y : ℕ). RecordAt job s.book (s.task y) (s.status y) (get_elem? homes y)) (sym e) (subst (λ (st : Status). RecordAt job s.book (s.task k) st (get_elem? homes k)) (sym free) tt)
+              | inr ne ↦ rw (set_else t.homes k u none ne) (o.slots.records u low)
+            ];
+            shop = rw (set_else t.homes k job.workers none (λ e. let a = m.0 in omega arith)) o.slots.shop;
+            batches = rw (set_else t.homes k (job.workers + 1) none (λ e. let a = m.0 in omega arith)) o.slots.batches;
+          };
+          views = λ i u x e lo hi. ⊎_elim
+              (λ q.
+              let lo' : w.own.worker ≤ x = subst (λ (y : View). y.own.worker ≤ x) (sym q.1) lo in
+              let hi' : x < w.to = subst (λ (y : View). x < y.to) (sym q.1) hi in
+              let is : x ≡ k = omega arith in (
+                subst (λ (y : ℕ). y < job.workers) (sym is) m.0,
+                subst (λ (y : ℕ). AgreesWithView job s (get_elem? homes y) (o.seat y) i u y) (sym is)
+                    (subst (λ (j : ℕ). AgreesWithView job s (get_elem? homes k) (o.seat k) j u k) (sym q.0) (subst (λ (y : View). AgreesWithView job s (get_elem? homes k) (o.seat k) id y k) q.1
+                    record {
+                      sits = m.1.sits;
+                      task = m.1.task;
+                      call = m.1.call;
+                      posted = m.1.posted;
+                      told = m.1.told;
+                      hold = m.1.hold;
+                      entries = m.1.entries;
+                      new = λ e. absurd (cc);
+                      done = m.1.done;
+                      seen = m.1.seen;
+                      since = record { most = m.1.since.most; early = m.1.since.early; late = m.1.since.late; placed = m.1.since.placed; waits = m.1.since.waits };
+                    })),
+              ))
+              (λ q.
+              let was = o.views i u x q.1 lo hi in
+              let ne : x ≢ k = λ is. q.0 (sym was.1.sits ∙ (ap o.seat is ∙ m.1.sits)) in
+              (was.0, subst (λ (h : SlotHome). AgreesWithView job s h (o.seat x) i u x) (sym (set_else t.homes k x none ne)) was.1))
+              (at_set t.views id i w u e);
+          seats = λ x low. seat_stays t.views id k v w me from to from to (o.seat x) x (o.seats x low);
+          trace = o.trace;
+          ready = o.ready;
+          reached = o.reached;
+          events = agree_still t.views id k v w o.trace me from to from to refl o.events;
+          stop = stop_still t.views id v w (get_or t.words (stop_at job.workers) 0) (get_or t.words (stop_at job.workers) 0) (at_below t.views id v me) me refl refl (λ h. inl h) o.stop;
+        },
+        refl,
+      ),
       ap (λ (y : ℕ). (enrolling v, (y, Slots.Vacant) ∷ xs)) (sym from),
     )
 
@@ -302,7 +309,9 @@ starts job room given laws words are =
 
 pub enrols_at : (job : CoreJob) (room : ℕ) (slots id j : ℕ) (m : View × List (ℕ × Slot)) (v : View) (xs : List (ℕ × Slot)) (k : ℕ) → m ≡ (v, xs) → v.own.worker ≡ k → v.to ≡ k + 1 → v.enrolled ≡ false
     → Allows (Shows job room) slots id m j (λ y. y) (enrolled (step slots j 0 0 none) m)
-enrols_at job room slots id j m v xs k e from to fresh = subst (λ (m : View × List (ℕ × Slot)). Allows (Shows job room) slots id m j (λ y. y) (enrolled (step slots j 0 0 none) m)) (sym e) (enrols job room slots id j v xs k from to fresh)
+enrols_at job room slots id j m v xs k e from to fresh = subst (λ (m : View × List (ℕ × Slot)). Allows (Shows job room) slots id m j (λ y. y) (enrolled (step slots j 0 0 none) m)) (sym e)
+    (λ t o wide me fits. let x = enrols job room slots id j v xs k from to fresh t o wide me fits in (x.0, x.1, x.2, x.3.0, x.4))
 
 pub cuts_at : (job : CoreJob) (room id : ℕ) (w v : View) → w ≡ v → v.own.worker < v.to → Splits (Shows job room) id w (rest_of w) (pass_of w)
-cuts_at job room id w v e some_left = subst (λ (w : View). Splits (Shows job room) id w (rest_of w) (pass_of w)) (sym e) (cuts job room id v some_left)
+cuts_at job room id w v e some_left = subst (λ (w : View). Splits (Shows job room) id w (rest_of w) (pass_of w)) (sym e)
+    (λ t o me. (splits job room id v some_left t o me).0)

@@ -293,15 +293,15 @@ pub few_nodes : (nodes count : ℕ) → nodes ≡ count → nodes < 40000 → co
 few_nodes nodes count e h = omega (arith, e, h)
 
 -- `TryMakes` for a try that finds the wanted number, and for one that does not
-pub found : {job : CoreJob} {room : ℕ} {t : TableState} {before : State} (word wanted : ℕ) (IsEvent : State → State → Type 0) → word ≡ wanted → ShowsOne job room (IsEvent before) t → ShowsOne job room (TryMakes wanted IsEvent before word) t
-found word wanted IsEvent is h = (h.0, ((λ _. h.1), (λ ne. absurd (ne is))))
+pub found : {job : CoreJob} {room : ℕ} {t : TableState} {before : State} (word wanted : ℕ) (Makes : State → ℕ → State → Type 0) → word ≡ wanted → ShowsOne job room (Makes before word) t → ShowsOne job room (TryMakes wanted Makes before word) t
+found word wanted Makes is h = (h.0, ((λ _. h.1), (λ ne. absurd (ne is))))
 
-pub missed : {job : CoreJob} {room : ℕ} {t : TableState} {before : State} (word wanted : ℕ) (IsEvent : State → State → Type 0) → word ≢ wanted → ShowsOne job room (λ (s : State). s ≡ before) t → ShowsOne job room (TryMakes wanted IsEvent before word) t
-missed word wanted IsEvent ne h = (h.0, ((λ is. absurd (ne is)), (λ _. h.1)))
+pub missed : {job : CoreJob} {room : ℕ} {t : TableState} {before : State} (word wanted : ℕ) (Makes : State → ℕ → State → Type 0) → word ≢ wanted → ShowsOne job room (λ (s : State). s ≡ before) t → ShowsOne job room (TryMakes wanted Makes before word) t
+missed word wanted Makes ne h = (h.0, ((λ is. absurd (ne is)), (λ _. h.1)))
 
 -- `ArrivalMakes` for a mark found at 0, and for another
-pub found_none : {job : CoreJob} {room : ℕ} {t : TableState} {before : State} (word : ℕ) (First Second : State → State → Type 0) → word ≡ 0 → ShowsOne job room (First before) t → ShowsOne job room (ArrivalMakes First Second before word) t
+pub found_none : {job : CoreJob} {room : ℕ} {t : TableState} {before : State} (word : ℕ) (First Second : State → ℕ → State → Type 0) → word ≡ 0 → ShowsOne job room (First before word) t → ShowsOne job room (ArrivalMakes First Second before word) t
 found_none word First Second is h = (h.0, ((λ _. h.1), (λ ne. absurd (ne is))))
 
-pub found_one : {job : CoreJob} {room : ℕ} {t : TableState} {before : State} (word : ℕ) (First Second : State → State → Type 0) → word ≢ 0 → ShowsOne job room (Second before) t → ShowsOne job room (ArrivalMakes First Second before word) t
+pub found_one : {job : CoreJob} {room : ℕ} {t : TableState} {before : State} (word : ℕ) (First Second : State → ℕ → State → Type 0) → word ≢ 0 → ShowsOne job room (Second before word) t → ShowsOne job room (ArrivalMakes First Second before word) t
 found_one word First Second ne h = (h.0, ((λ is. absurd (ne is)), (λ _. h.1)))

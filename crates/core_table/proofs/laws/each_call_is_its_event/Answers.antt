@@ -10,10 +10,11 @@ use Rattle.table_rule.proofs.StepLemmas.JobSteps as jobs
 use Rattle.table_rule.proofs.StepLemmas.LookSteps as looks
 use Rattle.table_rule.proofs.StepLemmas.GateSteps as gate
 use Rattle.table_rule.proofs.StepLemmas.PublishStep as publishing
+use Rattle.table_rule.proofs.StepLemmas.Starts as makings
 use Rattle.core_table.proofs.laws.each_call_is_its_event.Goals as goal
 
-pub returns : goal.returns
-returns c key sound slots id k v xs is =
+pub returns-clause-calls : goal.returns-clause-calls
+returns-clause-calls c key sound slots id k v xs is =
     let job = job_of key in
     let room = room_of key in
     let laws = c.laws_hold.ensures key sound.few sound.leaves sound.short sound.sources in record {
@@ -36,9 +37,9 @@ returns c key sound slots id k v xs is =
           let at : may.1.0 ≡ n = cc in
           gate.posts job room laws slots id v xs k is.worker is.to call is.enrolled (n, start, task, subst (λ (y : ℕ). job.plan.kind y ≡ Some (LeafNode call.leaf)) at may.1.3, may.1.4) may.0;
       win = λ out. gate.wins job room laws slots id v xs k is.worker is.to is.workers out is.room;
-      take = λ h u holds next low. gate.looks job room laws slots id v xs k is.worker is.to h u is.room is.job holds next low;
-      publish = λ h batch holds due few. publishing.publishes job room laws slots id v xs k is.worker is.to h batch holds is.room due few;
-      answer = λ h u call r holds low there record_ yet receipt. gate.answers job room laws slots id v xs k is.worker is.to h u call r holds low there record_ yet receipt;
+      take = λ h u holds due. gate.looks job room laws slots id v xs k is.worker is.to h u is.room is.job holds due.0 due.1;
+      publish = λ h batch holds due. publishing.publishes job room laws slots id v xs k is.worker is.to h batch holds is.room due;
+      answer = λ h u call r holds there record_ yet receipt. gate.answers job room laws slots id v xs k is.worker is.to h u call r holds there record_ yet receipt;
       release = λ h holds due there. gate.releases_shop job room laws slots id v xs k is.worker is.to h h.book holds due.looked there due.answered refl;
       release_unserved = λ h holds due. gate.releases_both job room laws slots id v xs k is.worker is.to h h.book holds due.looked due.answered refl;
       leave = λ out nothing. gate.leaves job room laws slots id v xs k is.worker is.to is.enrolled out nothing is.job;
@@ -51,3 +52,9 @@ returns c key sound slots id k v xs is =
           looks.looks_at_value job room laws slots id v xs k is.worker is.to _ n start leaf source is.workers is.nodes stands.0 stands.2 from refl;
       admit = publishing.admits job room laws slots id v xs k is.worker is.to _ is.workers is.room sound.workers;
     }
+
+pub returns-clause-making : goal.returns-clause-making
+returns-clause-making c key slots id v xs = record {
+  split = λ some_left. makings.splits (job_of key) (room_of key) id v some_left;
+  enrol = λ word alone fresh. makings.enrols (job_of key) (room_of key) slots id word v xs v.own.worker refl alone fresh;
+}

@@ -45,10 +45,12 @@ store-requires c =
     let list = c.turn_by.ensures.me ∙ (ap (λ (s : SeatState). (s.0, turns c.first_place-at.result s.1)) (holder_after pass.worker workers old.me h h.owed holds there refl c.requires.pass.2 c.requires.pass.7)
     ∙ ap (λ l. (v, l)) (to_front h.owed u c.first_place-at.result last at)) in
     let put = swapped c.turn_by.new.seat.me c.exchange.new.seat.me v u Slots.Vacant (Slots.Receipt c.args.receipt) tail list c.exchange.ensures.3 in
+    let looked_at = m.2.below u (record_took h.taken u due.1 due.4) in
+    let looks = looks_at workers v.own.hold h c.requires.pass.10 holds in
     let laws = c.laws_hold.ensures self.setting refl in (
       c.exchange.ensures.0 ∙ (c.turn_by.ensures.table.0 ∙ c.requires.pass.0),
-      omega (arith, self.sized.0, c.requires.low),
-      rw self.key.0 (λ a b d e f. let x = (answers_at job (room_of self.setting) laws _ _ v tail pass.worker pass.number.0 pass.number.1 _ h u due.1 c.args.receipt put holds c.requires.low there due.4 due.5 due.6) a b d e f in (x.0, x.1, x.2, x.3.0, x.4)),
+      omega (arith, self.sized.0, looked_at, looks),
+      rw self.key.0 (λ a b d e f. let x = (answers_at job (room_of self.setting) laws _ _ v tail pass.worker pass.number.0 pass.number.1 _ h u due.1 c.args.receipt put holds there due.4 due.5 due.6) a b d e f in (x.0, x.1, x.2, x.3.0, x.4)),
     )
 
 pub invariant_of-pass : goal.invariant_of-pass

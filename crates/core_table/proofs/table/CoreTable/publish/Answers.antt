@@ -11,7 +11,6 @@ use Rattle.table_rule.specs.Passes.{in_hold, after_publish, publishing}
 use Rattle.table_rule.specs.Views.{with_step}
 use Rattle.core_table.proofs.PassLemmas.PassKept.{held_out, looks_at, looks_after, pass_made, first, swapped, turned_to, carries_published, holder_list, found_book, books}
 use Rattle.core_table.proofs.ListLemmas.Owed.{remembers_hold, owes_published}
-use Rattle.table_rule.proofs.ListLemmas.CallCounts.{room_few, few_batches_in}
 use Rattle.table_rule.proofs.StepLemmas.PublishStep.{admits, publishes_at}
 use Rattle.core_table.proofs.table.CoreTable.publish.Goals as goal
 
@@ -75,12 +74,11 @@ fetch_add-requires c =
     let emptied = swapped c.load.new.seat.me c.exchange.new.seat.me v at (Slots.Book book) Slots.Vacant tail list c.exchange.ensures.3 in
     let put_back = swapped c.exchange.new.seat.me c.exchange-2.new.seat.me v at Slots.Vacant (Slots.Book _) tail emptied c.exchange-2.ensures.3
     ∙ ap (λ (b : ReservedView). (v, (at, Slots.Book b) ∷ tail)) whole in
-    let admitted = c.load.ensures.2.1 h c.args.batch holds (subst (λ (n : ℕ). IsPublishDue n h c.args.batch) (sym c.requires.pass.2) due) in
     let laws = c.laws_hold.ensures self.setting refl in (
       c.exchange-2.ensures.0 ∙ (c.exchange.ensures.0 ∙ (c.load.ensures.0 ∙ c.requires.pass.0)),
       omega (arith, self.sized.0, place),
       rw (self.key.0, place) (λ a b d e f. let x = (publishes_at job room laws _ _ v tail pass.worker pass.number.0 pass.number.1 _ h c.args.batch (put_back ∙ ap (λ (i : ℕ). (v, (i, Slots.Book (reserved (h.book ++ c.args.batch ∷ []) room)) ∷ tail)) place)
-          holds c.requires.pass.6 due (few_batches_in room job.plan.count (length h.book) (room_few job) laws.few (omega (arith, admitted.1, c.requires.pass.6)))) a b d e f in (x.0, x.1, x.2, x.3.0, x.4)),
+          holds c.requires.pass.6 due) a b d e f in (x.0, x.1, x.2, x.3.0, x.4)),
     )
 
 pub invariant_of-pass : goal.invariant_of-pass

@@ -19,10 +19,10 @@ pub compare_exchange-seen-requires : goal.compare_exchange-seen-requires
 compare_exchange-seen-requires c =
     let self = c.args.self.now in let pass = c.args.pass.now in let job = job_of self.setting in let v = pass.seat.me.0 in
     let laws = c.laws_hold.ensures self.setting refl in
-    let next = c.requires.next in (
+    let due = c.requires.due in (
       c.requires.pass.0,
-      omega (arith, self.sized.0, c.requires.low),
-      rw self.key.0 (λ a b d e f. let x = (looks job (room_of self.setting) laws _ _ v pass.seat.me.1 pass.worker pass.number.0 pass.number.1 next.0 c.args.u c.requires.pass.6 c.requires.pass.9 next.1 next.2 c.requires.low) a b d e f in (x.0, x.1, x.2, x.3.0, x.4)),
+      omega (arith, self.sized.0, due.2.1),
+      rw self.key.0 (λ a b d e f. let x = (looks job (room_of self.setting) laws _ _ v pass.seat.me.1 pass.worker pass.number.0 pass.number.1 due.0 c.args.u c.requires.pass.6 c.requires.pass.9 due.1 due.2.0 due.2.1) a b d e f in (x.0, x.1, x.2, x.3.0, x.4)),
     )
 
 pub exchange-slot-requires : goal.exchange-slot-requires
@@ -38,7 +38,7 @@ returns-then-seen-ne1-clause-pass c =
     pass_made c.args.self.now.setting _ c.args.pass.now.worker old c.compare_exchange-seen.new.seat w old.me.1 c.compare_exchange-seen.ensures.0 (e.4 c.if-seen-ne1.true) refl refl refl refl refl refl
     (carries_passed c.args.pass.now.worker c.args.u old.me.0 e.0 c.compare_exchange-seen.result old.me.1 out e.1 c.requires.pass.7)
     (let m = c.requires.pass.8.holds e.0 e.1 in remembers_hold w _ _ (after_pass c.compare_exchange-seen.result e.0) (ap (in_hold (after_pass c.compare_exchange-seen.result)) e.1) m.0 m.1 (owes_passed e.0 c.compare_exchange-seen.result m.2))
-    (looks_after c.args.self.now.setting.workers (after_pass c.compare_exchange-seen.result) old.me.0.own.hold e.0 e.1 (let next = c.requires.next in let at = ap (λ (h : HoldView). h.looks) (same_hold next.0 e.0 (sym next.1 ∙ e.1)) in omega (arith, at, next.2, c.requires.low))) c.requires.pass
+    (looks_after c.args.self.now.setting.workers (after_pass c.compare_exchange-seen.result) old.me.0.own.hold e.0 e.1 (let due = c.requires.due in let at = ap (λ (h : HoldView). h.looks) (same_hold due.0 e.0 (sym due.1 ∙ e.1)) in omega (arith, at, due.2.0, due.2.1))) c.requires.pass
 
 pub returns-clause-pass : goal.returns-clause-pass
 returns-clause-pass c =
@@ -52,19 +52,19 @@ returns-clause-pass c =
     (c.turn.ensures.0 ∙ (c.exchange-slot.ensures.0 ∙ c.compare_exchange-seen.ensures.0)) last refl refl refl refl refl refl
     (carries_took c.args.pass.now.worker u old.me.0 e.0 t.0 old.me.1 out e.1 e.2 c.requires.pass.7)
     (let m = c.requires.pass.8.holds e.0 e.1 in
-    let next = c.requires.next in
-    let at : u ≡ e.0.looks = next.2 ∙ ap (λ (h : HoldView). h.looks) (same_hold next.0 e.0 (sym next.1 ∙ e.1)) in
+    let due = c.requires.due in
+    let at : u ≡ e.0.looks = due.2.0 ∙ ap (λ (h : HoldView). h.looks) (same_hold due.0 e.0 (sym due.1 ∙ e.1)) in
     remembers_hold w _ _ (after_take (call_by u t.0) e.0) (ap (in_hold (after_take (call_by u t.0))) e.1) (c.push_reserved.ensures.items ∙ ap (λ l. l ++ u ∷ []) m.0) m.1
     (subst (λ (n : ℕ). Owes (after_take (call_by n t.0) e.0)) (sym at) (owes_taken e.0 t.0 e.2 m.2)))
-    (looks_after c.args.self.now.setting.workers (after_take (call_by u t.0)) old.me.0.own.hold e.0 e.1 (let next = c.requires.next in let at = ap (λ (h : HoldView). h.looks) (same_hold next.0 e.0 (sym next.1 ∙ e.1)) in omega (arith, at, next.2, c.requires.low))) c.requires.pass
+    (looks_after c.args.self.now.setting.workers (after_take (call_by u t.0)) old.me.0.own.hold e.0 e.1 (let due = c.requires.due in let at = ap (λ (h : HoldView). h.looks) (same_hold due.0 e.0 (sym due.1 ∙ e.1)) in omega (arith, at, due.2.0, due.2.1))) c.requires.pass
 
 pub push_reserved-requires : goal.push_reserved-requires
 push_reserved-requires c =
     let pass = c.args.pass.now in
-    let next = c.requires.next in
-    let m = c.requires.pass.8.holds next.0 next.1 in
+    let due = c.requires.due in
+    let m = c.requires.pass.8.holds due.0 due.1 in
     let few = m.2.few in let long = ap (λ (l : List ℕ). length l) m.0 in
-    omega (arith, few, long, next.2, c.requires.low, c.args.self.now.few.1, pass.room.0, pass.room.1)
+    omega (arith, few, long, due.2.0, due.2.1, c.args.self.now.few.1, pass.room.0, pass.room.1)
 
 pub returns-clause-took : goal.returns-clause-took
 returns-clause-took c =

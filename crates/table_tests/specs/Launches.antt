@@ -1,6 +1,5 @@
 -- What the holder of the flag has in hand in the course of a launch.
-use Rattle.std.specs.Prelude.{ℕ, ◌≡◌, ◌<◌, false, Some, List, [], take}
-use Rattle.std.specs.List.{AllByRecursion}
+use Rattle.std.specs.Prelude.{ℕ, ◌≡◌, false, Some, List, [], take}
 use Rattle.seq_objects.specs.declared.call.Call.{Call}
 use Rattle.batch_history.specs.declared.batch.Entry.{Entry}
 use Rattle.core_model.specs.declared.status.CallState.TheVariants.{Out}
@@ -33,7 +32,6 @@ pub record HasFlag (table : CoreTable) (node : ℕ) (before : List (List Entry))
 -- The batch is published after this book, and of its entries the first so many are answered.
 pub record HasAnswered (size : ℕ) (before : List (List Entry)) (batch : List Entry) (n : ℕ) (h : HoldView) : Type 0 where
   pub looks : h.looks ≡ size
-  pub below : AllByRecursion (λ call. call.worker < size) h.taken
   pub published : IsPublished before batch h
   pub answered : h.answered ≡ take n (workers_in batch)
 

@@ -1,6 +1,5 @@
 -- What a pass that has the flag has in hand after each of its calls.
 use Rattle.std.proofs.Common.{ℕ, zero, suc, ◌≡◌, ◌≢◌, ◌<◌, ◌≤◌, ◌+◌, true, false, Some, List, [], ◌∷◌, ◌++◌, length, map, get_or, take, arith, refl, sym, ap, ◌∙◌, subst, inr}
-use Rattle.std.specs.List.{AllByRecursion}
 use Rattle.std.proofs.lemmas.List.{take_all, length-map}
 use Rattle.std.proofs.lemmas.Option.{slice_get-get_or}
 use Rattle.sp_order.specs.Jobs.{tree_or_leaf}
@@ -13,7 +12,6 @@ use Rattle.core_model.specs.Operations.{place_of, IsReceipt}
 use Rattle.core_model.specs.declared.status.Receipt.{Receipt}
 use Rattle.launch_batch.specs.Calls.{MayServe, IsServiceOf}
 use Rattle.batch_history.specs.Serving.{call_in, calls_in}
-use Rattle.launch_batch.proofs.ListLemmas.Among.{each_among}
 use Rattle.launch_batch.proofs.ListLemmas.Same.{length_same}
 use Rattle.table_rule.specs.declared.slot.OpRecord.{OpRecord}
 use Rattle.table_rule.specs.declared.view.HoldView.{HoldView}
@@ -24,14 +22,12 @@ use Rattle.table_rule.specs.Plays.{IsNewCall}
 use Rattle.table_rule.specs.Shows.{record_in, among}
 use Rattle.table_rule.specs.Views.{with_step, with_found}
 use Rattle.table_rule.proofs.ListLemmas.CallCounts.{room_few}
-use Rattle.table_rule.proofs.TableLemmas.Moved.{record_took}
 use Rattle.core_table.specs.declared.table.CoreTable.{CoreTable}
 use Rattle.core_table.specs.declared.table.Pass.{Pass}
 use Rattle.core_table.specs.Passes.{IsPassOf, job_in, view, pass_view}
 use Rattle.worker_crew.specs.Holds.{workers_in, IsAnswerDue}
 use Rattle.worker_crew.proofs.SeatLemmas.Fits.{fit_taken, fit_passed}
 use Rattle.worker_crew.proofs.SeatLemmas.Serving as serving
-use Rattle.worker_crew.proofs.SeatLemmas.Taken.{took_taken}
 use Rattle.table_tests.specs.Adds.{IsTwoAdds}
 use Rattle.table_tests.specs.Launches.{HasFlag, Answers}
 
@@ -128,7 +124,6 @@ module _ (t : CoreTable) (node n : ℕ) (before : List (List Entry)) (calls : Li
       hold = ap (λ (v : View). v.own.hold) now ∙ ap (in_hold (after_publish batch)) f.hold;
       answered = record {
         looks = f.taken.looks ∙ size;
-        below = subst (λ k. AllByRecursion (λ (c : Call). c.worker < k) f.h.taken) (f.taken.looks ∙ size) f.taken.fit.below;
         published = record {
           published = refl;
           book = ap (λ b. b ++ batch ∷ []) f.book;
@@ -183,12 +178,6 @@ module _ (t : CoreTable) (node : ℕ) (before : List (List Entry)) (batch : List
       × (among h.answered (get_or batch i d).worker ≡ false) × IsReceipt (place_of h.book call.leaf) (record { batch = number; place = i; reply = (get_or batch i d).reply })
   answer_due number low is = let r = due_now number low is in (a.h, r.0, a.hold, r.1, r.2, r.3, r.4)
 
-  pub answer_low : i < length batch → (get_or batch i d).worker < (job_in t).workers
-  answer_low low =
-      let r = due_now (length before) low refl in
-      let found = took_taken a.h.taken (get_or batch i d).worker (record_took a.h.taken (get_or batch i d).worker r.0 r.2) in
-      subst (λ u. u < (job_in t).workers) found.2 (each_among (λ (c : Call). c.worker < (job_in t).workers) a.h.taken found.0 a.answered.below found.1)
-
   pub one_answered : (receipt : Receipt) (q : Pass) → IsPassOf t q → i < length batch → view q ≡ with_step (answering (get_or batch i d).worker receipt) (view p)
       → Answers t node before batch (i + 1) q
   one_answered receipt q own low now =
@@ -202,7 +191,6 @@ module _ (t : CoreTable) (node : ℕ) (before : List (List Entry)) (batch : List
         hold = ap (λ (v : View). v.own.hold) now ∙ ap (in_hold (after_answer w)) a.hold;
         answered = record {
           looks = a.answered.looks;
-          below = a.answered.below;
           published = record {
             published = a.answered.published.published;
             book = a.answered.published.book;

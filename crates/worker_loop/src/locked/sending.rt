@@ -5,7 +5,7 @@ ghost use denote.Param.Send.{IsSend};
 ghost use Rattle.batcher_core.specs.contracts.scheduler.Core.{the_row};
 
 use batcher_core::Core;
-use core_table::laws::shops_go_to_threads;
+use launch_batch::laws::shops_go_to_threads;
 
 /// The row of a `Send` type satisfies `IsSend`. For proofs only; it does nothing.
 fn is_sent<T: Send>()

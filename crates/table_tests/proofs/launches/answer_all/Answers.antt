@@ -1,11 +1,6 @@
 use Rattle.std.proofs.Common.{arith}
-use Rattle.table_tests.proofs.LaunchLemmas.Flags.{answers_few, answer_due, answer_low, one_answered}
+use Rattle.table_tests.proofs.LaunchLemmas.Flags.{answers_few, answer_due, one_answered}
 use Rattle.table_tests.proofs.launches.answer_all.Goals as goal
-
-pub answer-requires-clause-low : goal.answer-requires-clause-low
-answer-requires-clause-low c =
-    let i = c.loop-place.invariant in
-    answer_low c.args.table.now c.args.node i.0 c.args.batch.now c.loop-place.place _ c.loop-place.pass i.3 c.loop-place-test.true
 
 pub answer-requires-clause-due : goal.answer-requires-clause-due
 answer-requires-clause-due c =

@@ -3,6 +3,7 @@
 //! `text` of `batch_history` asks that a report has a row for each leaf of its job, and only objects for which the job
 //! has names. A test that holds any report asks for the text here, and gets an empty one where that does not hold.
 #![tactic(auto)]
+
 ghost use Rattle.std.specs.Prelude.{◌≡◌, nat_le};
 ghost use Rattle.std.specs.List.{list_all};
 ghost use Rattle.seq_objects.specs.Objects.{number_of};

@@ -8,7 +8,7 @@ use Rattle.table_rule.specs.declared.view.HoldView.{HoldView}
 use Rattle.core_table.specs.declared.table.CoreTable.{CoreTable}
 use Rattle.core_table.specs.declared.table.Pass.{Pass}
 use Rattle.core_table.specs.Passes.{IsPassOf, job_in, pass_view}
-use Rattle.worker_crew.specs.Holds.{workers_in, AreFit, IsPublished}
+use Rattle.worker_turns.specs.Holds.{workers_in, AreFit, IsPublished}
 
 -- The hold has looked at the workers below this number, and taken exactly these calls. They can be served as one batch.
 pub record HasTaken (n : ℕ) (calls : List Call) (h : HoldView) : Type 0 where

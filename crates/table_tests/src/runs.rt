@@ -1,13 +1,12 @@
 //! Runs over the running table in two threads: their reports replayed by the serial objects, and beside the receipts.
 ghost use Rattle.std.specs.Prelude.{◌≡◌, ◌<◌, ◌≤◌, ◌+◌, ◌*◌, ◌^◌, ℕ, IfOk};
 ghost use Rattle.seq_objects.specs.Kept.{store_in};
-ghost use Rattle.core_table.specs.Passes.{job_in, pass_view, IsPassOf};
+ghost use Rattle.core_table.specs.Passes.{job_in};
 ghost use Rattle.worker_crew.specs.Workers.{IsReady};
 
 use crate::workers::{Made, Team};
 use batch_history::Report;
 use bt_io::{NoPause, Pause};
-use core_table::{CoreTable, Pass};
 use job_lang::read_job;
 use seq_objects::{Op, Plain, Reply};
 use sp_order::Job;
@@ -106,17 +105,17 @@ fn work_both<M: Send, C: Team<M> + Sync, R: Threads + Wait + Sync>(
 fn work_as_crew<R: Threads + Wait + Sync, G: Pause + Sync>(
     rt: &R,
     alloc: Global,
-    crew: &Crew<CoreTable, G>,
-    zero: &mut Me<Pass>,
-    one: &mut Me<Pass>,
+    crew: &Crew<G>,
+    zero: &mut Me,
+    one: &mut Me,
     nodes: u32,
     calls: usize,
 ) -> (Result<Vec<Made>, Stop>, Result<Vec<Made>, Stop>)
     requires workers { crew.now.workers ≡ (job_in crew.now.table).workers }
-    requires zero { IsReady (IsPassOf crew.now.table) pass_view crew.now.decks crew.now.board zero.old }
-    requires one { IsReady (IsPassOf crew.now.table) pass_view crew.now.decks crew.now.board one.old }
+    requires zero { IsReady crew.now.table crew.now.decks crew.now.board zero.old }
+    requires one { IsReady crew.now.table crew.now.decks crew.now.board one.old }
     ensures { IfOk result.1 (λ _.
-        IsReady (IsPassOf crew.now.table) pass_view crew.now.decks crew.now.board one.new) }
+        IsReady crew.now.table crew.now.decks crew.now.board one.new) }
 {
     crews_go_to_threads::<G>();
     workers_go_to_threads();
@@ -143,7 +142,7 @@ pub(crate) fn run_both<R: Threads + Wait + Sync, G: Pause + Sync>(
         return Ok(None);
     };
     let mut pass = one.pass;
-    if !CoreTable::root_done(&crew.table, &mut pass) {
+    if !crew.table.root_done(&mut pass) {
         return Ok(None);
     }
     let Crew {

@@ -1,6 +1,6 @@
 //! Calls that take a reply as argument, by two workers in turns on one thread.
 ghost use Rattle.std.specs.Prelude.{◌≡◌, IfOk};
-ghost use Rattle.core_table.specs.Passes.{job_in, pass_view, IsPassOf};
+ghost use Rattle.core_table.specs.Passes.{job_in};
 ghost use Rattle.sp_order.specs.Precedence.{tree_of};
 ghost use Rattle.worker_crew.specs.Workers.{IsReady};
 ghost use Rattle.table_tests.specs.Sourced.{four_shape, four_acts, four_sources};
@@ -8,7 +8,6 @@ ghost use Rattle.table_tests.specs.Sourced.{four_shape, four_acts, four_sources}
 use crate::workers::{Made, try_all};
 use batch_history::Report;
 use bt_io::{NoPause, Pause};
-use core_table::{CoreTable, Pass};
 use seq_objects::{Act, Op};
 use sp_order::{Job, Shape};
 use std::alloc::{AllocError, Global};
@@ -60,15 +59,15 @@ fn four_calls(alloc: Global) -> Result<Job, AllocError> {
 fn in_turns<G: Pause, R: Wait>(
     rt: &R,
     alloc: Global,
-    crew: &Crew<CoreTable, G>,
-    zero: &mut Me<Pass>,
-    one: &mut Me<Pass>,
+    crew: &Crew<G>,
+    zero: &mut Me,
+    one: &mut Me,
 ) -> Result<(Vec<Made>, Vec<Made>), Stop>
     requires workers { crew.now.workers ≡ (job_in crew.now.table).workers }
-    requires zero { IsReady (IsPassOf crew.now.table) pass_view crew.now.decks crew.now.board zero.old }
-    requires one { IsReady (IsPassOf crew.now.table) pass_view crew.now.decks crew.now.board one.old }
+    requires zero { IsReady crew.now.table crew.now.decks crew.now.board zero.old }
+    requires one { IsReady crew.now.table crew.now.decks crew.now.board one.old }
     ensures zero { IfOk result (λ _.
-        IsReady (IsPassOf crew.now.table) pass_view crew.now.decks crew.now.board zero.new) }
+        IsReady crew.now.table crew.now.decks crew.now.board zero.new) }
 {
     let mut first = Vec::new(alloc);
     let mut second = Vec::new(alloc);
@@ -94,7 +93,7 @@ fn run_in_turns<R: Wait>(
         return Ok(None);
     };
     let mut pass = zero.pass;
-    if !CoreTable::root_done(&crew.table, &mut pass) {
+    if !crew.table.root_done(&mut pass) {
         return Ok(None);
     }
     let Crew {

@@ -1,7 +1,6 @@
 //! One worker sets the stop word, and the other finds it: in the turn of a free worker, and in its call.
 use crate::workers::Team;
 use bt_io::NoPause;
-use core_table::CoreTable;
 use job_lang::read_job;
 use sp_order::Job;
 use std::alloc::{AllocError, Global};
@@ -17,7 +16,7 @@ fn is_stopped<R: Wait>(rt: &R, alloc: Global, job: &Job, calls: bool) -> Result<
     let (crew, mut mes) = Crew::make(alloc, job, 2, &NoPause)?;
     let mut one = mes.remove(1);
     let mut zero = mes.remove(0);
-    CoreTable::stop(&crew.table, &mut one.pass);
+    crew.table.stop(&mut one.pass);
     if calls {
         let made = crew.work(rt, alloc, &mut zero, 1, 1);
         return Ok(matches!(made, Err(Stop::Stopped)));

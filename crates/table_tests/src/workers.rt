@@ -2,7 +2,7 @@
 ghost use Rattle.std.specs.Prelude.{◌≡◌, [], Some, IfOk, IfSome};
 ghost use Rattle.piece_board.specs.Boards.{desk_view};
 ghost use Rattle.worker_crew.specs.Passes.{IsFree};
-ghost use Rattle.core_table.specs.Passes.{job_in, pass_view, IsPassOf};
+ghost use Rattle.core_table.specs.Passes.{job_in, pass_view, IsPassOf, next_in};
 ghost use Rattle.worker_crew.specs.Workers.{IsMeOf, IsReady};
 ghost use Rattle.worker_turns.specs.Callings.{IsCallDue};
 
@@ -12,7 +12,7 @@ use core_table::{CoreTable, Pass};
 use seq_objects::{spin, value};
 use std::alloc::Global;
 use std::sync::Wait;
-use worker_turns::{Called, Crew, Me, Stop, Table, call};
+use worker_turns::{Called, Crew, Me, Stop, call};
 
 /// A call that a worker made: its leaf, the value of its source if it has one, and what was answered.
 #[derive(Clone, Copy)]
@@ -23,15 +23,15 @@ pub(crate) struct Made {
 }
 
 /// The value of the source of the leaf that is to call, where it has one, an earlier leaf, and two answers are alike.
-fn ask_twice<T: Table>(table: &T, pass: &mut T::Pass, leaf: u32) -> Option<u64>
-    requires pass { T.gave table.now pass.old }
-    requires free { IsFree (T.seen pass.old) }
-    requires due { IsCallDue leaf (T.next_of table.now (T.seen pass.old)) }
-    ensures pass { T.gave table.now pass.new }
-    ensures free { IsFree (T.seen pass.new) }
-    ensures next { T.next_of table.now (T.seen pass.new) ≡ T.next_of table.now (T.seen pass.old) }
-    ensures worker { (T.seen pass.new).worker ≡ (T.seen pass.old).worker }
-    ensures told { IfSome result (λ value. (T.seen pass.new).told ≡ Some value) }
+fn ask_twice(table: &CoreTable, pass: &mut Pass, leaf: u32) -> Option<u64>
+    requires pass { IsPassOf table.now pass.old }
+    requires free { IsFree (pass_view pass.old) }
+    requires due { IsCallDue leaf (next_in table.now (pass_view pass.old)) }
+    ensures pass { IsPassOf table.now pass.new }
+    ensures free { IsFree (pass_view pass.new) }
+    ensures next { next_in table.now (pass_view pass.new) ≡ next_in table.now (pass_view pass.old) }
+    ensures worker { (pass_view pass.new).worker ≡ (pass_view pass.old).worker }
+    ensures told { IfSome result (λ value. (pass_view pass.new).told ≡ Some value) }
 {
     let Some(source) = table.source(leaf) else {
         return None;
@@ -46,22 +46,22 @@ fn ask_twice<T: Table>(table: &T, pass: &mut T::Pass, leaf: u32) -> Option<u64>
 }
 
 /// Makes the worker's next act.
-fn make_act<T: Table, G: Pause, R: Wait>(
+fn make_act<G: Pause, R: Wait>(
     rt: &R,
     alloc: Global,
-    crew: &Crew<T, G>,
-    me: &mut Me<T::Pass>,
+    crew: &Crew<G>,
+    me: &mut Me,
     act: Next,
     made: &mut Vec<Made>,
 ) -> Result<(), Stop>
-    requires me { IsMeOf (T.gave crew.now.table) T.seen crew.now.decks crew.now.board me.old }
-    requires free_pass { IsFree (T.seen me.old.pass) }
-    requires due { T.next_of crew.now.table (T.seen me.old.pass) ≡ Some act }
+    requires me { IsMeOf crew.now.table crew.now.decks crew.now.board me.old }
+    requires free_pass { IsFree (pass_view me.old.pass) }
+    requires due { next_in crew.now.table (pass_view me.old.pass) ≡ Some act }
     requires free { (desk_view me.old.desk).posted ≡ [] }
-    requires workers { crew.now.workers ≡ T.workers crew.now.table }
+    requires workers { crew.now.workers ≡ (job_in crew.now.table).workers }
     ensures me { IfOk result (λ _.
-        IsMeOf (T.gave crew.now.table) T.seen crew.now.decks crew.now.board me.new) }
-    ensures free_pass { IfOk result (λ _. IsFree (T.seen me.new.pass)) }
+        IsMeOf crew.now.table crew.now.decks crew.now.board me.new) }
+    ensures free_pass { IfOk result (λ _. IsFree (pass_view me.new.pass)) }
     ensures free { IfOk result (λ _. (desk_view me.new.desk).posted ≡ []) }
 {
     match act {
@@ -69,7 +69,9 @@ fn make_act<T: Table, G: Pause, R: Wait>(
             crew.table.tick(&mut me.pass);
             crew.pause.at(Point::LeafStart(leaf), me.hand.worker());
         }
-        Next::End { node: _, start: _ } => crew.table.tick(&mut me.pass),
+        Next::End { node: _, start: _ } => {
+            crew.table.tick(&mut me.pass);
+        }
         Next::Open {
             node: _,
             task: _,
@@ -111,18 +113,18 @@ fn make_act<T: Table, G: Pause, R: Wait>(
 }
 
 /// Claims the node, if it is ready, and carries it on until the task is idle.
-fn try_node<T: Table, G: Pause, R: Wait>(
+fn try_node<G: Pause, R: Wait>(
     rt: &R,
     alloc: Global,
-    crew: &Crew<T, G>,
-    me: &mut Me<T::Pass>,
+    crew: &Crew<G>,
+    me: &mut Me,
     node: u32,
     made: &mut Vec<Made>,
 ) -> Result<(), Stop>
-    requires ready { IsReady (T.gave crew.now.table) T.seen crew.now.decks crew.now.board me.old }
-    requires workers { crew.now.workers ≡ T.workers crew.now.table }
+    requires ready { IsReady crew.now.table crew.now.decks crew.now.board me.old }
+    requires workers { crew.now.workers ≡ (job_in crew.now.table).workers }
     ensures ready { IfOk result (λ _.
-        IsReady (T.gave crew.now.table) T.seen crew.now.decks crew.now.board me.new) }
+        IsReady crew.now.table crew.now.decks crew.now.board me.new) }
 {
     if !crew.table.claim(&mut me.pass, node) {
         return Ok(());
@@ -137,19 +139,19 @@ fn try_node<T: Table, G: Pause, R: Wait>(
 }
 
 /// Tries each node once, while it has made fewer calls than these.
-pub(crate) fn try_all<T: Table, G: Pause, R: Wait>(
+pub(crate) fn try_all<G: Pause, R: Wait>(
     rt: &R,
     alloc: Global,
-    crew: &Crew<T, G>,
-    me: &mut Me<T::Pass>,
+    crew: &Crew<G>,
+    me: &mut Me,
     nodes: u32,
     calls: usize,
     made: &mut Vec<Made>,
 ) -> Result<(), Stop>
-    requires ready { IsReady (T.gave crew.now.table) T.seen crew.now.decks crew.now.board me.old }
-    requires workers { crew.now.workers ≡ T.workers crew.now.table }
+    requires ready { IsReady crew.now.table crew.now.decks crew.now.board me.old }
+    requires workers { crew.now.workers ≡ (job_in crew.now.table).workers }
     ensures ready { IfOk result (λ _.
-        IsReady (T.gave crew.now.table) T.seen crew.now.decks crew.now.board me.new) }
+        IsReady crew.now.table crew.now.decks crew.now.board me.new) }
 {
     for node in 0..nodes {
         if made.len() < calls {
@@ -160,18 +162,18 @@ pub(crate) fn try_all<T: Table, G: Pause, R: Wait>(
 }
 
 /// Lets a worker try the nodes until it has made so many calls, or the root is done.
-fn work_to<T: Table, G: Pause, R: Wait>(
+fn work_to<G: Pause, R: Wait>(
     rt: &R,
     alloc: Global,
-    crew: &Crew<T, G>,
-    me: &mut Me<T::Pass>,
+    crew: &Crew<G>,
+    me: &mut Me,
     nodes: u32,
     calls: usize,
 ) -> Result<Vec<Made>, Stop>
-    requires ready { IsReady (T.gave crew.now.table) T.seen crew.now.decks crew.now.board me.old }
-    requires workers { crew.now.workers ≡ T.workers crew.now.table }
+    requires ready { IsReady crew.now.table crew.now.decks crew.now.board me.old }
+    requires workers { crew.now.workers ≡ (job_in crew.now.table).workers }
     ensures ready { IfOk result (λ _.
-        IsReady (T.gave crew.now.table) T.seen crew.now.decks crew.now.board me.new) }
+        IsReady crew.now.table crew.now.decks crew.now.board me.new) }
 {
     let mut made = Vec::new(alloc);
     for _ in rt.forever() {
@@ -201,15 +203,15 @@ pub(crate) trait Team<M> {
         ensures ready { IfOk result (λ _. ready self.now me.new) };
 }
 
-impl<'a, G: Pause> Team<Me<Pass>> for Crew<'a, CoreTable, G> {
+impl<'a, G: Pause> Team<Me> for Crew<'a, G> {
     ghost ready = { λ crew me. (crew.workers ≡ (job_in crew.table).workers)
-        × IsReady (IsPassOf crew.table) pass_view crew.decks crew.board me };
+        × IsReady crew.table crew.decks crew.board me };
 
     fn work<R: Wait>(
         &self,
         rt: &R,
         alloc: Global,
-        me: &mut Me<Pass>,
+        me: &mut Me,
         nodes: u32,
         calls: usize,
     ) -> Result<Vec<Made>, Stop> {

@@ -11,6 +11,7 @@ use Rattle.piece_board.specs.Boards.{desk_view}
 use Rattle.piece_board.specs.Desks.{fresh_desk}
 use Rattle.launch_batch.specs.declared.piece.PieceIn.{PieceIn}
 use Rattle.launch_batch.specs.declared.piece.PieceOut.{PieceOut}
+use Rattle.core_table.specs.declared.table.CoreTable.{CoreTable}
 use Rattle.worker_crew.specs.declared.batch_pieces.BatchPieces.{BatchPieces}
 use Rattle.worker_crew.specs.declared.crew.Me.{Me}
 use Rattle.worker_crew.specs.Words.{Idle}
@@ -38,16 +39,15 @@ pub record IsFreshPass (worker : ℕ) (pass : PassView) : Type 0 where
   pub free : IsFree pass
   pub idle : pass.task ≡ Idle
 
-module _ {Pass : Type 0} (gave : Pass → Type 0) (seen : Pass → PassView) (decks : Decks)
-    (board : Board BatchPieces PieceIn PieceOut) (workers : ℕ) where
+module _ (table : CoreTable) (decks : Decks) (board : Board BatchPieces PieceIn PieceOut) (workers : ℕ) where
   -- `me` is this worker, ready for its first turn: its hand is the initial one, its desk and its tries are unused
-  pub record IsAtStart (worker : ℕ) (me : Me Pass) : Type 0 where
-    pub ready : IsReady gave seen decks board me
+  pub record IsAtStart (worker : ℕ) (me : Me) : Type 0 where
+    pub ready : IsReady table decks board me
     pub hand : held me.hand ≡ opening_hand worker workers
     pub desk : desk_view me.desk ≡ fresh_desk worker
     pub tries : me.tries ≡ first_tries worker workers
 
   -- `mes` is a list of n workers, indexed by worker, each in its initial state
-  pub record AreAtStart (n : ℕ) (mes : List (Me Pass)) : Type 0 where
+  pub record AreAtStart (n : ℕ) (mes : List Me) : Type 0 where
     pub count : length mes ≡ n
-    pub each : (w : ℕ) (me : Me Pass) → w < n → me ≡ slice_index_or mes w me → IsAtStart w me
+    pub each : (w : ℕ) (me : Me) → w < n → me ≡ slice_index_or mes w me → IsAtStart w me

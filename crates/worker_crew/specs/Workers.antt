@@ -10,6 +10,8 @@ use Rattle.piece_board.specs.declared.view.DeskView.{DeskView}
 use Rattle.piece_board.specs.Boards.{desk_view, IsDeskOf}
 use Rattle.launch_batch.specs.declared.piece.PieceIn.{PieceIn}
 use Rattle.launch_batch.specs.declared.piece.PieceOut.{PieceOut}
+use Rattle.core_table.specs.declared.table.CoreTable.{CoreTable}
+use Rattle.core_table.specs.Passes.{IsPassOf, pass_view}
 use Rattle.worker_crew.specs.declared.batch_pieces.BatchPieces.{BatchPieces}
 use Rattle.worker_crew.specs.declared.crew.Me.{Me}
 use Rattle.worker_crew.specs.Words.{Idle}
@@ -25,33 +27,30 @@ pub record MeSeen : Type 0 where
   pub desk : DeskView PieceIn
   pub tries : TriesView
 
-module _ {Pass : Type 0} where
-  abbrev pub me_seen : (Pass → PassView) → Me Pass → MeSeen
-  me_seen seen me = record {
-    pass = seen me.pass;
-    core = (held me.hand).core;
-    batch = (held me.hand).batch;
-    desk = desk_view me.desk;
-    tries = me.tries;
-  }
+abbrev pub me_seen : Me → MeSeen
+me_seen me = record {
+  pass = pass_view me.pass;
+  core = (held me.hand).core;
+  batch = (held me.hand).batch;
+  desk = desk_view me.desk;
+  tries = me.tries;
+}
 
-  -- The pass belongs to the table, the hand to these deques and the desk to this board. All of them, and the tries, are
-  -- of one and the same worker number, and the tries and the deques agree on the number of workers.
-  pub record IsMeOf (gave : Pass → Type 0) (seen : Pass → PassView) (decks : Decks)
-      (board : Board BatchPieces PieceIn PieceOut) (me : Me Pass) : Type 0 where
-    pub pass : gave me.pass
-    pub hand : IsHandOf decks me.hand
-    pub desk : IsDeskOf board me.desk
-    pub worker : (seen me.pass).worker ≡ (held me.hand).worker
-    pub row : (desk_view me.desk).row ≡ (held me.hand).worker
-    pub tries : me.tries.worker ≡ (held me.hand).worker
-    pub workers : me.tries.workers ≡ workers_of decks
+-- The pass belongs to the table, the hand to these deques and the desk to this board. All of them, and the tries, are
+-- of one and the same worker number, and the tries and the deques agree on the number of workers.
+pub record IsMeOf (table : CoreTable) (decks : Decks) (board : Board BatchPieces PieceIn PieceOut) (me : Me) : Type 0 where
+  pub pass : IsPassOf table me.pass
+  pub hand : IsHandOf decks me.hand
+  pub desk : IsDeskOf board me.desk
+  pub worker : (pass_view me.pass).worker ≡ (held me.hand).worker
+  pub row : (desk_view me.desk).row ≡ (held me.hand).worker
+  pub tries : me.tries.worker ≡ (held me.hand).worker
+  pub workers : me.tries.workers ≡ workers_of decks
 
-  -- The worker may take the turn of a free worker: it has no call out, no flag and no task, and all places of its row
-  -- on the board are free.
-  pub record IsReady (gave : Pass → Type 0) (seen : Pass → PassView) (decks : Decks)
-      (board : Board BatchPieces PieceIn PieceOut) (me : Me Pass) : Type 0 where
-    pub own : IsMeOf gave seen decks board me
-    pub free : IsFree (seen me.pass)
-    pub idle : (seen me.pass).task ≡ Idle
-    pub row : (desk_view me.desk).posted ≡ []
+-- The worker may take the turn of a free worker: it has no call out, no flag and no task, and all places of its row on
+-- the board are free.
+pub record IsReady (table : CoreTable) (decks : Decks) (board : Board BatchPieces PieceIn PieceOut) (me : Me) : Type 0 where
+  pub own : IsMeOf table decks board me
+  pub free : IsFree (pass_view me.pass)
+  pub idle : (pass_view me.pass).task ≡ Idle
+  pub row : (desk_view me.desk).posted ≡ []

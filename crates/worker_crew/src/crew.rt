@@ -5,14 +5,15 @@ ghost use Rattle.worker_crew.specs.declared.crew.Stop.TheVariants.{Memory};
 mod opening;
 
 use crate::batch_pieces::BatchPieces;
+use core_table::{CoreTable, Pass};
 use piece_board::{Board, Desk};
 use std::alloc::{AllocError, AllocFailed};
 use two_deques::{Decks, Hand, Tries};
 
 /// What all workers share: the table, the deques, the board, the number of workers, and the gate (`bt_io::Pause`).
 #[derive(Drop)]
-pub struct Crew<'a, T, G> {
-    pub table: T,
+pub struct Crew<'a, G> {
+    pub table: CoreTable,
     pub decks: Decks,
     pub board: Board<BatchPieces>,
     pub workers: u32,
@@ -22,8 +23,8 @@ pub struct Crew<'a, T, G> {
 /// What one worker owns: its pass to the table, its hand of deque ends, its desk at the board, and its choice of steal
 /// victims.
 #[derive(Drop)]
-pub struct Me<P> {
-    pub pass: P,
+pub struct Me {
+    pub pass: Pass,
     pub hand: Hand,
     pub desk: Desk<BatchPieces>,
     pub tries: Tries,

@@ -1,4 +1,4 @@
-//! A crew over `CoreTable` can be shared between threads (`Sync`), and its workers can be sent to them (`Send`).
+//! A crew can be shared between threads (`Sync`), and its workers can be sent to them (`Send`).
 //!
 //! The proof search on the whole crew at once exceeds its budget, so each part is shown first.
 ghost use denote.Ref.{NamedLft};
@@ -9,7 +9,6 @@ ghost use Rattle.piece_board.specs.contracts.board.Board.{the_row as board_row};
 ghost use Rattle.piece_board.specs.contracts.board.Desk.{the_row as desk_row};
 ghost use Rattle.two_deques.specs.contracts.decks.Decks.{the_row as decks_row};
 ghost use Rattle.two_deques.specs.contracts.hand.Hand.{the_row as hand_row};
-ghost use Rattle.core_table.specs.contracts.table.CoreTable.{the_row as table_row};
 ghost use Rattle.core_table.specs.contracts.table.Pass.{the_row as pass_row};
 ghost use Rattle.worker_crew.specs.contracts.batch_pieces.BatchPieces.{the_row as pieces_row};
 ghost use Rattle.worker_crew.specs.contracts.batch_pieces.BatchPiecesWork.TheImpl.{ghosts};
@@ -52,9 +51,9 @@ fn decks_go_to_threads()
     is_sent::<Hand>();
 }
 
-/// A worker over `CoreTable` can be sent to a thread, and its pass can be sent back.
+/// A worker can be sent to a thread, and its pass can be sent back.
 pub fn workers_go_to_threads()
-    ensures worker { IsSend (me_row pass_row) }
+    ensures worker { IsSend me_row }
     ensures pass { IsSend pass_row }
 {
     tables_go_to_threads();
@@ -62,9 +61,9 @@ pub fn workers_go_to_threads()
     decks_go_to_threads();
 }
 
-/// A crew over `CoreTable` can be shared between threads if its gate can.
+/// A crew can be shared between threads if its gate can.
 pub fn crews_go_to_threads<G: Sync>()
-    ensures { (l : NamedLft) → IsSync (crew_row l table_row G.row) }
+    ensures { (l : NamedLft) → IsSync (crew_row l G.row) }
 {
     tables_go_to_threads();
     boards_go_to_threads();

@@ -17,13 +17,8 @@ pub mod locked;
 mod start_barrier;
 mod table_run;
 
-use core_table::{CoreTable, Pass};
 pub use locked::run_locked;
 pub use table_run::run_table;
-pub use worker_turns::{Called, Did, Stop, Trapped, call, free_turn, launch, trapped_turn};
-
-/// What the workers of a run over the running table share. `Crew::make` makes it together with the workers.
-pub type Crew<'a, G> = worker_crew::Crew<'a, CoreTable, G>;
-
-/// One worker of a run over the running table.
-pub type Me = worker_crew::Me<Pass>;
+pub use worker_turns::{
+    Called, Crew, Did, Me, Stop, Trapped, call, free_turn, launch, trapped_turn,
+};

@@ -2,7 +2,7 @@
 ghost use Rattle.std.specs.Prelude.{◌≡◌, ◌<◌, ◌≤◌, ℕ, true, Some, IfOk, length, slice_index_or};
 ghost use Rattle.batch_history.specs.Lawful.{Lawful};
 ghost use Rattle.core_table.specs.declared.table.Pass.{Pass as PassOf};
-ghost use Rattle.core_table.specs.Passes.{planned_in, job_in, view, pass_view, IsPassOf};
+ghost use Rattle.core_table.specs.Passes.{planned_in, job_in, view, IsPassOf};
 ghost use Rattle.table_rule.specs.Passes.{finding_none};
 ghost use Rattle.table_rule.specs.Views.{with_found, seeing_done};
 ghost use Rattle.core_model.specs.Reports.{IsRunReport};
@@ -30,7 +30,7 @@ use worker_turns::work;
 /// of a crew is shown only once.
 trait SharedRun {
     /// The worker is ready to start.
-    ghost ready: { Self → MeOf PassOf → Type 0 };
+    ghost ready: { Self → MeOf → Type 0 };
 
     /// The pass belongs to the team's table.
     ghost gave: { Self → PassOf → Type 0 };
@@ -44,7 +44,7 @@ trait SharedRun {
 
 impl<'a, G: Pause> SharedRun for Crew<'a, G> {
     ghost ready = { λ crew me. (crew.workers ≡ (job_in crew.table).workers)
-        × IsReady (IsPassOf crew.table) pass_view crew.decks crew.board me };
+        × IsReady crew.table crew.decks crew.board me };
 
     ghost gave = { λ crew pass. IsPassOf crew.table pass };
 
@@ -62,7 +62,7 @@ fn work_in_threads<C: SharedRun + Sync, R: Threads + Wait + Sync>(
     workers: u32,
     mes: Vec<Me>,
 ) -> Result<Vec<Pass>, AllocError>
-    requires ready { (w : ℕ) (me : MeOf PassOf) → w < length mes.items
+    requires ready { (w : ℕ) (me : MeOf) → w < length mes.items
         → me ≡ slice_index_or mes.items w me → C.ready team.now me }
     ensures count { IfOk result (λ passes. length passes.items ≡ length mes.items) }
     ensures passes { IfOk result (λ passes. (w : ℕ) (pass : PassOf) → w < length passes.items
@@ -92,8 +92,8 @@ fn work_as_crew<R: Threads + Wait + Sync, G: Pause + Sync>(
     mes: Vec<Me>,
 ) -> Result<Vec<Pass>, AllocError>
     requires workers { crew.now.workers ≡ (job_in crew.now.table).workers }
-    requires start { AreAtStart (IsPassOf crew.now.table) pass_view crew.now.decks crew.now.board
-        crew.now.workers crew.now.workers mes.items }
+    requires start { AreAtStart crew.now.table crew.now.decks crew.now.board crew.now.workers
+        crew.now.workers mes.items }
     ensures count { IfOk result (λ passes. length passes.items ≡ crew.now.workers) }
     ensures passes { IfOk result (λ passes. (w : ℕ) (pass : PassOf) → w < length passes.items
         → pass ≡ slice_index_or passes.items w pass → IsPassOf crew.now.table pass × HasEnded pass) }

@@ -1,4 +1,5 @@
 pub mod PieceLemmas
+pub mod HoldLemmas
 pub mod LaunchLemmas
 pub mod CarryLemmas
 pub mod MeaningLemmas

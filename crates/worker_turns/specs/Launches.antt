@@ -8,7 +8,7 @@ use Rattle.launch_batch.specs.Calls.{AreSame}
 use Rattle.launch_batch.specs.Places.{places}
 use Rattle.worker_crew.specs.Words.{Event}
 use Rattle.table_rule.specs.declared.view.HoldView.{HoldView}
-use Rattle.worker_crew.specs.Holds.{TookNone, ServedAll}
+use Rattle.worker_turns.specs.Holds.{TookNone, ServedAll}
 use Rattle.worker_crew.specs.Workers.{MeSeen}
 use Rattle.worker_turns.specs.Pieces.{Desk}
 

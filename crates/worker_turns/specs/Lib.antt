@@ -2,6 +2,7 @@
 -- laws conclude from an answer, and `Code` has what only contracts of private functions use.
 pub mod Pieces
 pub mod Stops
+pub mod Holds
 pub mod Launches
 pub mod Callings
 pub mod Trapped

@@ -1,18 +1,39 @@
 -- The path of a trapped worker's turn, for each answer: its steps from the worker's old view to the new one.
-use Rattle.std.specs.Prelude.{ℕ, ◌≡◌, ◌≤◌, ◌⊎◌, None, List, Option}
+use Rattle.std.specs.Prelude.{ℕ, ◌≡◌, ◌≤◌, ◌+◌, ◌⊎◌, None, Some, List, Option, IfSome}
 use Rattle.two_deques.specs.declared.spot.Spot.{Spot}
 use Rattle.core_model.specs.Words.{Entry, Op}
+use Rattle.core_model.specs.Entries.{StandsAt}
+use Rattle.core_model.specs.declared.status.Receipt.{Receipt}
 use Rattle.worker_turns.specs.declared.attempts.PieceAttempt.{PieceAttempt}
 use Rattle.worker_turns.specs.declared.attempts.PieceAttempt.TheVariants.{Ran}
 use Rattle.worker_turns.specs.declared.trapped.Trapped.{Trapped}
 use Rattle.worker_turns.specs.declared.trapped.Trapped.TheVariants.{Left, Piece, Launched, Nothing}
+use Rattle.table_rule.specs.declared.slot.OpRecord.{OpRecord}
 use Rattle.table_rule.specs.declared.view.PassView.{PassView}
-use Rattle.table_rule.specs.Passes.{finding_none, staying, losing, winning}
-use Rattle.worker_crew.specs.Passes.{IsLeft, IsDue, IsFront, HasOwnOp}
+use Rattle.table_rule.specs.Passes.{finding_none, staying, leaving, losing, winning}
+use Rattle.table_rule.specs.Shows.{IsFront, entry_of}
 use Rattle.worker_crew.specs.Workers.{MeSeen}
 use Rattle.worker_turns.specs.Pieces.{NotRan, IsOwnPiece, IsOtherPiece}
 use Rattle.worker_turns.specs.Stops.{unstopped}
 use Rattle.worker_turns.specs.Launches.{Launches}
+
+-- The pass left with the receipt of the call that it posted, and saw a book that extends the one seen before and has the
+-- call's entry, with this worker and the receipt's reply, at the receipt's batch and place.
+pub record IsLeft (receipt : Receipt) (old new : PassView) : Type 0 where
+  pub call : OpRecord
+  pub posted : old.posted ≡ Some call
+  pub left : new ≡ leaving call receipt new.book_seen old
+  pub longer : IsFront old.book_seen new.book_seen
+  pub stands : StandsAt new.book_seen receipt.batch receipt.place (entry_of old.worker (record { call = call; receipt = receipt }))
+
+-- the call that the pass posted last has the operation of its leaf under the book that the pass has seen
+abbrev pub HasOwnOp : (List (List Entry) → ℕ → Option Op) → PassView → Type 0
+HasOwnOp op_of p = (call : OpRecord) × (p.posted ≡ Some call) × (op_of p.book_seen call.leaf ≡ Some call.op)
+
+-- A receipt may have this batch number: at least every answer of `since` before the post, and at most one more than the
+-- least answer after it, if there is one.
+abbrev pub IsDue : ℕ → PassView → Type 0
+IsDue batch p = (p.before ≤ batch) × IfSome p.after (λ since. batch ≤ since + 1)
 
 -- the worker after a refused leave and a refused win
 abbrev pub refused_both : MeSeen → MeSeen

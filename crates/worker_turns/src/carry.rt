@@ -1,5 +1,6 @@
 //! The execution of a claimed node.
 ghost use Rattle.std.specs.Prelude.{◌≡◌, Some, [], IfOk, IfErr};
+ghost use Rattle.core_table.specs.Passes.{IsPassOf, job_in, next_in, pass_view};
 ghost use Rattle.worker_crew.specs.Words.{Idle};
 ghost use Rattle.piece_board.specs.Boards.{desk_view};
 ghost use Rattle.worker_crew.specs.Passes.{IsFree};
@@ -14,35 +15,37 @@ use seq_objects::value;
 use seq_objects::work::spin;
 use std::alloc::Global;
 use std::sync::Wait;
-use worker_crew::{Crew, Me, Stop, Table};
+use worker_crew::{Crew, Me, Stop};
 
 /// Makes the worker's next act. A `Call` takes as long as the call.
-fn make_act<T: Table, G: Pause, R: Wait>(
+fn make_act<G: Pause, R: Wait>(
     rt: &R,
     alloc: Global,
-    crew: &Crew<T, G>,
-    me: &mut Me<T::Pass>,
+    crew: &Crew<G>,
+    me: &mut Me,
     act: Next,
 ) -> Result<(), Stop>
-    requires me { IsMeOf (T.gave crew.now.table) T.seen crew.now.decks crew.now.board me.old }
-    requires free_pass { IsFree (T.seen me.old.pass) }
-    requires due { T.next_of crew.now.table (T.seen me.old.pass) ≡ Some act }
+    requires me { IsMeOf crew.now.table crew.now.decks crew.now.board me.old }
+    requires free_pass { IsFree (pass_view me.old.pass) }
+    requires due { next_in crew.now.table (pass_view me.old.pass) ≡ Some act }
     requires free { (desk_view me.old.desk).posted ≡ [] }
-    requires workers { crew.now.workers ≡ T.workers crew.now.table }
-    ensures pass { T.gave crew.now.table me.new.pass }
+    requires workers { crew.now.workers ≡ (job_in crew.now.table).workers }
+    ensures pass { IsPassOf crew.now.table me.new.pass }
     ensures me { IfOk result (λ _.
-        IsMeOf (T.gave crew.now.table) T.seen crew.now.decks crew.now.board me.new) }
-    ensures free_pass { IfOk result (λ _. IsFree (T.seen me.new.pass)) }
+        IsMeOf crew.now.table crew.now.decks crew.now.board me.new) }
+    ensures free_pass { IfOk result (λ _. IsFree (pass_view me.new.pass)) }
     ensures free { IfOk result (λ _. (desk_view me.new.desk).posted ≡ []) }
-    ensures carried { IfOk result (λ _. RanToIdle (me_seen T.seen me.old) (me_seen T.seen me.new)) }
-    ensures stopped { IfErr result (λ stop. IsStop stop (T.seen me.old.pass) (T.seen me.new.pass)) }
+    ensures carried { IfOk result (λ _. RanToIdle (me_seen me.old) (me_seen me.new)) }
+    ensures stopped { IfErr result (λ stop. IsStop stop (pass_view me.old.pass) (pass_view me.new.pass)) }
 {
     match act {
         Next::Start { node: _, leaf } => {
             crew.table.tick(&mut me.pass);
             crew.pause.at(Point::LeafStart(leaf), me.hand.worker());
         }
-        Next::End { node: _, start: _ } => crew.table.tick(&mut me.pass),
+        Next::End { node: _, start: _ } => {
+            crew.table.tick(&mut me.pass);
+        }
         Next::Open {
             node: _,
             task: _,
@@ -85,24 +88,24 @@ fn make_act<T: Table, G: Pause, R: Wait>(
 }
 
 /// Makes the worker's acts until its task is idle. A second arrival or the last side of a series continues with the block.
-pub(crate) fn run_to_idle<T: Table, G: Pause, R: Wait>(
+pub(crate) fn run_to_idle<G: Pause, R: Wait>(
     rt: &R,
     alloc: Global,
-    crew: &Crew<T, G>,
-    me: &mut Me<T::Pass>,
+    crew: &Crew<G>,
+    me: &mut Me,
 ) -> Result<(), Stop>
-    requires me { IsMeOf (T.gave crew.now.table) T.seen crew.now.decks crew.now.board me.old }
-    requires free_pass { IsFree (T.seen me.old.pass) }
+    requires me { IsMeOf crew.now.table crew.now.decks crew.now.board me.old }
+    requires free_pass { IsFree (pass_view me.old.pass) }
     requires free { (desk_view me.old.desk).posted ≡ [] }
-    requires workers { crew.now.workers ≡ T.workers crew.now.table }
-    ensures pass { T.gave crew.now.table me.new.pass }
+    requires workers { crew.now.workers ≡ (job_in crew.now.table).workers }
+    ensures pass { IsPassOf crew.now.table me.new.pass }
     ensures me { IfOk result (λ _.
-        IsMeOf (T.gave crew.now.table) T.seen crew.now.decks crew.now.board me.new) }
-    ensures free_pass { IfOk result (λ _. IsFree (T.seen me.new.pass)) }
-    ensures idle { IfOk result (λ _. (T.seen me.new.pass).task ≡ Idle) }
+        IsMeOf crew.now.table crew.now.decks crew.now.board me.new) }
+    ensures free_pass { IfOk result (λ _. IsFree (pass_view me.new.pass)) }
+    ensures idle { IfOk result (λ _. (pass_view me.new.pass).task ≡ Idle) }
     ensures free { IfOk result (λ _. (desk_view me.new.desk).posted ≡ []) }
-    ensures carried { IfOk result (λ _. RanToIdle (me_seen T.seen me.old) (me_seen T.seen me.new)) }
-    ensures stopped { IfErr result (λ stop. IsStop stop (T.seen me.old.pass) (T.seen me.new.pass)) }
+    ensures carried { IfOk result (λ _. RanToIdle (me_seen me.old) (me_seen me.new)) }
+    ensures stopped { IfErr result (λ stop. IsStop stop (pass_view me.old.pass) (pass_view me.new.pass)) }
 {
     for _ in rt.forever() {
         let Some(act) = crew.table.next(&me.pass) else {

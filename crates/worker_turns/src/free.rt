@@ -1,5 +1,6 @@
 //! The turn of a free worker.
 ghost use Rattle.std.specs.Prelude.{◌≡◌, ◌<◌, [], IfOk, IfErr};
+ghost use Rattle.core_table.specs.Passes.{IsPassOf, job_in, pass_view};
 ghost use Rattle.worker_crew.specs.Words.{Idle};
 ghost use Rattle.piece_board.specs.Boards.{desk_view};
 ghost use Rattle.worker_crew.specs.declared.crew.Stop.TheVariants.{Memory};
@@ -12,10 +13,11 @@ use crate::attempts::{NodeAttempt, PieceAttempt, StealAttempt};
 use crate::carry::run_to_idle;
 use crate::pieces::{claim_and_run, pop_own_piece};
 use bt_io::Pause;
+use core_table::{CoreTable, Pass};
 use std::alloc::Global;
 use std::sync::Wait;
 use two_deques::Deck;
-use worker_crew::{Crew, Me, Stop, Table};
+use worker_crew::{Crew, Me, Stop};
 
 /// The outcome of a free worker's turn.
 #[derive(Clone, Copy)]
@@ -29,13 +31,13 @@ pub enum Did {
 }
 
 /// Tries to claim the node, if there is one.
-fn claim_found<T: Table>(table: &T, pass: &mut T::Pass, found: Option<u32>) -> NodeAttempt
-    requires pass { T.gave table.now pass.old }
-    requires free { IsFree (T.seen pass.old) }
-    requires idle { (T.seen pass.old).task ≡ Idle }
-    ensures pass { T.gave table.now pass.new }
+fn claim_found(table: &CoreTable, pass: &mut Pass, found: Option<u32>) -> NodeAttempt
+    requires pass { IsPassOf table.now pass.old }
+    requires free { IsFree (pass_view pass.old) }
+    requires idle { (pass_view pass.old).task ≡ Idle }
+    ensures pass { IsPassOf table.now pass.new }
     ensures found { node_of result ≡ found }
-    ensures seen { T.seen pass.new ≡ pass_after result (T.seen pass.old) }
+    ensures seen { pass_view pass.new ≡ pass_after result (pass_view pass.old) }
 {
     let Some(node) = found else {
         return NodeAttempt::NoNode;
@@ -48,12 +50,12 @@ fn claim_found<T: Table>(table: &T, pass: &mut T::Pass, found: Option<u32>) -> N
 }
 
 /// Pops the worker's own deque of nodes once, and tries to claim what it gives.
-fn pop_own_node<T: Table, G: Pause>(crew: &Crew<T, G>, me: &mut Me<T::Pass>) -> NodeAttempt
-    requires me { IsMeOf (T.gave crew.now.table) T.seen crew.now.decks crew.now.board me.old }
-    requires free { IsFree (T.seen me.old.pass) }
-    requires idle { (T.seen me.old.pass).task ≡ Idle }
-    ensures me { IsMeOf (T.gave crew.now.table) T.seen crew.now.decks crew.now.board me.new }
-    ensures path { IsOwnNode result (me_seen T.seen me.old) (me_seen T.seen me.new) }
+fn pop_own_node<G: Pause>(crew: &Crew<G>, me: &mut Me) -> NodeAttempt
+    requires me { IsMeOf crew.now.table crew.now.decks crew.now.board me.old }
+    requires free { IsFree (pass_view me.old.pass) }
+    requires idle { (pass_view me.old.pass).task ≡ Idle }
+    ensures me { IsMeOf crew.now.table crew.now.decks crew.now.board me.new }
+    ensures path { IsOwnNode result (me_seen me.old) (me_seen me.new) }
 {
     let found = crew.decks.pop_core(&mut me.hand);
     claim_found(&crew.table, &mut me.pass, found)
@@ -61,20 +63,20 @@ fn pop_own_node<T: Table, G: Pause>(crew: &Crew<T, G>, me: &mut Me<T::Pass>) -> 
 
 /// Makes the turn's one steal, at the deque that `Tries` names next. A node is claimed and not yet carried on; a piece
 /// is claimed and run.
-fn steal_once<T: Table, G: Pause, R: Wait>(
+fn steal_once<G: Pause, R: Wait>(
     rt: &R,
     alloc: Global,
-    crew: &Crew<T, G>,
-    me: &mut Me<T::Pass>,
+    crew: &Crew<G>,
+    me: &mut Me,
 ) -> Result<StealAttempt, Stop>
-    requires me { IsMeOf (T.gave crew.now.table) T.seen crew.now.decks crew.now.board me.old }
-    requires free { IsFree (T.seen me.old.pass) }
-    requires idle { (T.seen me.old.pass).task ≡ Idle }
-    ensures pass { T.gave crew.now.table me.new.pass }
+    requires me { IsMeOf crew.now.table crew.now.decks crew.now.board me.old }
+    requires free { IsFree (pass_view me.old.pass) }
+    requires idle { (pass_view me.old.pass).task ≡ Idle }
+    ensures pass { IsPassOf crew.now.table me.new.pass }
     ensures me { IfOk result (λ _.
-        IsMeOf (T.gave crew.now.table) T.seen crew.now.decks crew.now.board me.new) }
+        IsMeOf crew.now.table crew.now.decks crew.now.board me.new) }
     ensures path { IfOk result (λ gave. IsOther gave
-        (me_seen T.seen me.old) (me_seen T.seen me.new)) }
+        (me_seen me.old) (me_seen me.new)) }
     ensures failed { IfErr result (λ stop. stop ≡ Memory) }
 {
     let Some(next) = me.tries.next_try() else {
@@ -95,28 +97,28 @@ fn steal_once<T: Table, G: Pause, R: Wait>(
 /// One turn of a free worker. It looks at the stop word, and then tries in this order: a node of its own deque, a piece
 /// of its own deque, and one steal. A claimed node is carried on until the task is idle again. A refused claim ends the
 /// turn.
-pub fn free_turn<T: Table, G: Pause, R: Wait>(
+pub fn free_turn<G: Pause, R: Wait>(
     rt: &R,
     alloc: Global,
-    crew: &Crew<T, G>,
-    me: &mut Me<T::Pass>,
+    crew: &Crew<G>,
+    me: &mut Me,
 ) -> Result<Did, Stop>
-    requires me { IsMeOf (T.gave crew.now.table) T.seen crew.now.decks crew.now.board me.old }
-    requires free_pass { IsFree (T.seen me.old.pass) }
-    requires idle { (T.seen me.old.pass).task ≡ Idle }
+    requires me { IsMeOf crew.now.table crew.now.decks crew.now.board me.old }
+    requires free_pass { IsFree (pass_view me.old.pass) }
+    requires idle { (pass_view me.old.pass).task ≡ Idle }
     requires free { (desk_view me.old.desk).posted ≡ [] }
-    requires workers { crew.now.workers ≡ T.workers crew.now.table }
-    ensures pass { T.gave crew.now.table me.new.pass }
+    requires workers { crew.now.workers ≡ (job_in crew.now.table).workers }
+    ensures pass { IsPassOf crew.now.table me.new.pass }
     ensures me { IfOk result (λ _.
-        IsMeOf (T.gave crew.now.table) T.seen crew.now.decks crew.now.board me.new) }
+        IsMeOf crew.now.table crew.now.decks crew.now.board me.new) }
     ensures path { IfOk result (λ did. IsFreeTurn did
-        (me_seen T.seen me.old) (me_seen T.seen me.new)) }
+        (me_seen me.old) (me_seen me.new)) }
     ensures looked { IfOk result (λ _.
-        (T.seen me.old.pass).stop_looks < (T.seen me.new.pass).stop_looks) }
-    ensures free_pass { IfOk result (λ _. IsFree (T.seen me.new.pass)) }
-    ensures idle { IfOk result (λ _. (T.seen me.new.pass).task ≡ Idle) }
+        (pass_view me.old.pass).stop_looks < (pass_view me.new.pass).stop_looks) }
+    ensures free_pass { IfOk result (λ _. IsFree (pass_view me.new.pass)) }
+    ensures idle { IfOk result (λ _. (pass_view me.new.pass).task ≡ Idle) }
     ensures free { IfOk result (λ _. (desk_view me.new.desk).posted ≡ []) }
-    ensures stopped { IfErr result (λ stop. IsStop stop (T.seen me.old.pass) (T.seen me.new.pass)) }
+    ensures stopped { IfErr result (λ stop. IsStop stop (pass_view me.old.pass) (pass_view me.new.pass)) }
 {
     if crew.table.stopped(&mut me.pass) {
         return Err(Stop::Stopped);

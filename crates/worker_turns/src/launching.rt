@@ -1,45 +1,73 @@
 //! A launch: the combiner serves the pending calls as one batch.
-ghost use Rattle.std.specs.Prelude.{◌≡◌, ◌≢◌, true, [], Some, IfOk, IfErr};
+ghost use Rattle.std.specs.Prelude.{◌≡◌, ◌≢◌, ◌<◌, [], Some, IfOk, IfErr};
+ghost use Rattle.table_rule.specs.declared.view.HoldView.{HoldView};
 ghost use Rattle.launch_batch.specs.Calls.{MayServe};
 ghost use Rattle.piece_board.specs.Boards.{desk_view};
+ghost use Rattle.core_table.specs.Passes.{IsPassOf, job_in, pass_view};
 ghost use Rattle.worker_crew.specs.declared.crew.Stop.TheVariants.{Memory};
-ghost use Rattle.table_rule.specs.Passes.{new_hold};
-ghost use Rattle.worker_crew.specs.Holds.{AreFit};
-ghost use Rattle.worker_crew.specs.Passes.{is_trapped, Holds, IsHeld};
+ghost use Rattle.table_rule.specs.Passes.{new_hold, taking, passing};
+ghost use Rattle.worker_turns.specs.Holds.{AreFit};
 ghost use Rattle.worker_crew.specs.Workers.{me_seen, IsMeOf};
 ghost use Rattle.worker_turns.specs.Launches.{Launches};
 ghost use Rattle.worker_turns.specs.Stops.{IsStop};
-ghost use Rattle.worker_turns.specs.Code.Serving.{HasLooked, HasTaken, answered_all, IsNewHold, IsAnswerable, ServesBatch};
+ghost use Rattle.worker_turns.specs.Code.Serving.{Holds, HasLooked, HasTaken, answered_all, IsNewHold, IsAnswerable, ServesBatch};
 
 use crate::pieces::serve_pieces;
 use batch_history::Entry;
 use bt_io::Pause;
 use core_model::Receipt;
+use core_table::{CoreTable, Pass};
 use launch_batch::Shop;
 use seq_objects::Call;
+use sp_order::laws::plan_stands_for_tree;
 use std::alloc::Global;
 use std::sync::Wait;
-use worker_crew::{Crew, Me, Stop, Table};
+use worker_crew::{Crew, Me, Stop};
+
+/// Looks at worker `u`, the next in order, and takes its call if that is pending. `Err` is the status that was found. If
+/// the calls taken before can be served as one batch, then so can they with this call.
+fn take_pending(table: &CoreTable, pass: &mut Pass, u: u32) -> Result<Call, u64>
+    requires pass { IsPassOf table.now pass.old }
+    requires below { u < (job_in table.now).workers }
+    requires next { (h : HoldView) × ((pass_view pass.old).hold ≡ Some h) × (u ≡ h.looks) }
+    requires fit { Holds AreFit (pass_view pass.old).hold }
+    ensures pass { IsPassOf table.now pass.new }
+    ensures took { IfOk result (λ call. (call.worker ≡ u)
+        × (pass_view pass.new ≡ taking call (pass_view pass.old))) }
+    ensures passed { IfErr result (λ status. (status ≢ 1)
+        × (pass_view pass.new ≡ passing u status (pass_view pass.old))) }
+    ensures fit { Holds AreFit (pass_view pass.new).hold }
+{
+    plan_stands_for_tree();
+    match table.take(pass, u) {
+        Ok(call) => Ok(Call {
+            worker: u,
+            leaf: call.leaf,
+            op: call.op,
+        }),
+        Err(status) => Err(status),
+    }
+}
 
 /// Looks at each worker once, in order from 0, and takes each call that is pending at its look.
-fn collect_pending<T: Table>(
+fn collect_pending(
     alloc: Global,
-    table: &T,
-    pass: &mut T::Pass,
+    table: &CoreTable,
+    pass: &mut Pass,
     workers: u32,
 ) -> Result<Vec<Call>, Stop>
-    requires pass { T.gave table.now pass.old }
-    requires won { IsHeld (T.seen pass.old) IsNewHold }
-    requires workers { workers ≡ T.workers table.now }
-    ensures pass { T.gave table.now pass.new }
+    requires pass { IsPassOf table.now pass.old }
+    requires won { Holds IsNewHold (pass_view pass.old).hold }
+    requires workers { workers ≡ (job_in table.now).workers }
+    ensures pass { IsPassOf table.now pass.new }
     ensures looked { IfOk result (λ calls.
-        HasLooked workers calls.items (T.seen pass.old) (T.seen pass.new)) }
-    ensures fit { IfOk result (λ _. Holds AreFit (T.seen pass.new).hold) }
+        HasLooked workers calls.items (pass_view pass.old) (pass_view pass.new)) }
+    ensures fit { IfOk result (λ _. Holds AreFit (pass_view pass.new).hold) }
     ensures failed { IfErr result (λ stop. stop ≡ Memory) }
 {
     let mut calls = Vec::new(alloc);
     for u in 0..workers {
-        if let Ok(call) = table.take(pass, u) {
+        if let Ok(call) = take_pending(table, pass, u) {
             calls.push(call)?;
         }
     }
@@ -47,11 +75,11 @@ fn collect_pending<T: Table>(
 }
 
 /// Answers the calls of the batch in batch order. `number` is the batch's number.
-fn answer_all<T: Table>(table: &T, pass: &mut T::Pass, batch: &[Entry], number: u32)
-    requires pass { T.gave table.now pass.old }
-    requires published { IsHeld (T.seen pass.old) (IsAnswerable number batch.now) }
-    ensures pass { T.gave table.now pass.new }
-    ensures answered { T.seen pass.new ≡ answered_all number batch.now (T.seen pass.old) }
+fn answer_all(table: &CoreTable, pass: &mut Pass, batch: &[Entry], number: u32)
+    requires pass { IsPassOf table.now pass.old }
+    requires published { Holds (IsAnswerable number batch.now) (pass_view pass.old).hold }
+    ensures pass { IsPassOf table.now pass.new }
+    ensures answered { pass_view pass.new ≡ answered_all number batch.now (pass_view pass.old) }
 {
     for place in 0..batch.len() {
         let entry = batch[place];
@@ -66,26 +94,25 @@ fn answer_all<T: Table>(table: &T, pass: &mut T::Pass, batch: &[Entry], number: 
 
 /// Serves the calls as one batch, whose pieces all workers may run, publishes it, and answers the calls. Returns the
 /// shop.
-fn serve_batch<T: Table, G: Pause, R: Wait>(
+fn serve_batch<G: Pause, R: Wait>(
     rt: &R,
     alloc: Global,
-    crew: &Crew<T, G>,
-    me: &mut Me<T::Pass>,
+    crew: &Crew<G>,
+    me: &mut Me,
     shop: Shop,
     calls: Vec<Call>,
 ) -> Result<Shop, Stop>
-    requires me { IsMeOf (T.gave crew.now.table) T.seen crew.now.decks crew.now.board me.old }
+    requires me { IsMeOf crew.now.table crew.now.decks crew.now.board me.old }
     requires free { (desk_view me.old.desk).posted ≡ [] }
-    requires trapped { is_trapped (T.seen me.old.pass).call ≡ true }
-    requires hold { HasTaken (T.workers crew.now.table) calls.items shop
-        (T.seen me.old.pass).hold }
+    requires hold { HasTaken (job_in crew.now.table).workers calls.items shop
+        (pass_view me.old.pass).hold }
     requires may { MayServe shop calls.items }
-    ensures pass { T.gave crew.now.table me.new.pass }
+    ensures pass { IsPassOf crew.now.table me.new.pass }
     ensures me { IfOk result (λ _.
-        IsMeOf (T.gave crew.now.table) T.seen crew.now.decks crew.now.board me.new) }
+        IsMeOf crew.now.table crew.now.decks crew.now.board me.new) }
     ensures batch { IfOk result (λ after. ServesBatch shop calls.items after
-        (me_seen T.seen me.old) (me_seen T.seen me.new)) }
-    ensures stopped { IfErr result (λ stop. IsStop stop (T.seen me.old.pass) (T.seen me.new.pass)) }
+        (me_seen me.old) (me_seen me.new)) }
+    ensures stopped { IfErr result (λ stop. IsStop stop (pass_view me.old.pass) (pass_view me.new.pass)) }
 {
     let number = shop.history().batches().len();
     let (opened, ins) = shop.begin(alloc, calls)?;
@@ -99,24 +126,23 @@ fn serve_batch<T: Table, G: Pause, R: Wait>(
 
 /// The combiner's work after it won the flag: takes the calls that it finds pending, serves them as one batch, answers
 /// them, and releases the flag. If it finds none, it only releases the flag.
-pub fn launch<T: Table, G: Pause, R: Wait>(
+pub fn launch<G: Pause, R: Wait>(
     rt: &R,
     alloc: Global,
-    crew: &Crew<T, G>,
-    me: &mut Me<T::Pass>,
+    crew: &Crew<G>,
+    me: &mut Me,
     shop: Shop,
 ) -> Result<(), Stop>
-    requires me { IsMeOf (T.gave crew.now.table) T.seen crew.now.decks crew.now.board me.old }
+    requires me { IsMeOf crew.now.table crew.now.decks crew.now.board me.old }
     requires free { (desk_view me.old.desk).posted ≡ [] }
-    requires trapped { is_trapped (T.seen me.old.pass).call ≡ true }
-    requires won { (T.seen me.old.pass).hold ≡ Some (new_hold shop) }
-    requires workers { crew.now.workers ≡ T.workers crew.now.table }
-    ensures pass { T.gave crew.now.table me.new.pass }
+    requires won { (pass_view me.old.pass).hold ≡ Some (new_hold shop) }
+    requires workers { crew.now.workers ≡ (job_in crew.now.table).workers }
+    ensures pass { IsPassOf crew.now.table me.new.pass }
     ensures me { IfOk result (λ _.
-        IsMeOf (T.gave crew.now.table) T.seen crew.now.decks crew.now.board me.new) }
-    ensures launched { IfOk result (λ _. Launches (T.workers crew.now.table) shop
-        (me_seen T.seen me.old) (me_seen T.seen me.new)) }
-    ensures stopped { IfErr result (λ stop. IsStop stop (T.seen me.old.pass) (T.seen me.new.pass)) }
+        IsMeOf crew.now.table crew.now.decks crew.now.board me.new) }
+    ensures launched { IfOk result (λ _. Launches (job_in crew.now.table).workers shop
+        (me_seen me.old) (me_seen me.new)) }
+    ensures stopped { IfErr result (λ stop. IsStop stop (pass_view me.old.pass) (pass_view me.new.pass)) }
 {
     let calls = collect_pending(alloc, &crew.table, &mut me.pass, crew.workers)?;
     if calls.is_empty() {

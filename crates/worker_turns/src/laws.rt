@@ -4,7 +4,7 @@
 ghost use Rattle.worker_crew.specs.Workers.{me_seen, IsMeOf};
 ghost use Rattle.worker_turns.specs.Meanings.Gains.{HasAllEnds};
 
-use worker_crew::{Crew, Me, Table};
+use worker_crew::{Crew, Me};
 
 pub mod events;
 pub mod free;
@@ -14,7 +14,7 @@ pub mod trapped;
 
 /// A worker of a crew meets `HasAllEnds`, a premise of laws of the turns: it has its ends of all workers' deques.
 #[tactic(auto, using(crate::proofs::MeaningLemmas::Gains::has_all_ends))]
-pub fn a_worker_has_its_ends_of_all_deques<T: Table, G>(crew: &Crew<T, G>, me: &Me<T::Pass>)
-    requires me { IsMeOf (T.gave crew.now.table) T.seen crew.now.decks crew.now.board me.now }
-    ensures { HasAllEnds (me_seen T.seen me.now) }
+pub fn a_worker_has_its_ends_of_all_deques<G>(crew: &Crew<G>, me: &Me)
+    requires me { IsMeOf crew.now.table crew.now.decks crew.now.board me.now }
+    ensures { HasAllEnds (me_seen me.now) }
 {}

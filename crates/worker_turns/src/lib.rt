@@ -6,8 +6,8 @@
 //! calls, serves them as one batch whose pieces any worker may run (`launching`, `pieces`), and answers them. A turn's
 //! contract describes its answer as a path from the worker's old view to its new one; `laws` derives from it which
 //! counts and lists grew. A worker takes turns until the root is done or the run is stopped (`worker`), and backs off
-//! after turns that did nothing (`back_off`). The crate builds on `worker_crew`, which has the worker, the shared state and
-//! the interface of the table, a parameter here; and on `two_deques`, `piece_board` and `launch_batch`.
+//! after turns that did nothing (`back_off`). The crate builds on `worker_crew`, which has the worker and the shared state;
+//! on `core_table`, whose calls a turn makes; and on `two_deques`, `piece_board` and `launch_batch`.
 #![tactic(auto)]
 
 pub mod attempts;
@@ -27,4 +27,4 @@ pub use free::{Did, free_turn};
 pub use launching::launch;
 pub use trapped::{Trapped, trapped_turn};
 pub use worker::work;
-pub use worker_crew::{BatchPieces, Crew, Me, Stop, Table};
+pub use worker_crew::{BatchPieces, Crew, Me, Stop};

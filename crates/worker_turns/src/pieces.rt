@@ -12,17 +12,17 @@ use launch_batch::run_piece;
 use std::alloc::Global;
 use std::sync::Wait;
 use two_deques::{Deck, Spot, Tries};
-use worker_crew::{Crew, Me, Stop, Table};
+use worker_crew::{Crew, Me, Stop};
 
 mod serving;
 
 pub(crate) use serving::serve_pieces;
 
 /// Claims the piece of the spot, if a spot was found, and runs it. A spot whose claim is refused is dropped.
-pub(crate) fn claim_and_run<T: Table, G: Pause>(
+pub(crate) fn claim_and_run<G: Pause>(
     alloc: Global,
-    crew: &Crew<T, G>,
-    me: &mut Me<T::Pass>,
+    crew: &Crew<G>,
+    me: &mut Me,
     found: Option<Spot>,
 ) -> Result<PieceAttempt, Stop>
     requires desk { IsDeskOf crew.now.board me.old.desk }
@@ -48,16 +48,16 @@ pub(crate) fn claim_and_run<T: Table, G: Pause>(
 }
 
 /// Pops the worker's own deque of pieces once, and claims and runs what it gives.
-pub(crate) fn pop_own_piece<T: Table, G: Pause>(
+pub(crate) fn pop_own_piece<G: Pause>(
     alloc: Global,
-    crew: &Crew<T, G>,
-    me: &mut Me<T::Pass>,
+    crew: &Crew<G>,
+    me: &mut Me,
 ) -> Result<PieceAttempt, Stop>
-    requires me { IsMeOf (T.gave crew.now.table) T.seen crew.now.decks crew.now.board me.old }
+    requires me { IsMeOf crew.now.table crew.now.decks crew.now.board me.old }
     ensures me { IfOk result (λ _.
-        IsMeOf (T.gave crew.now.table) T.seen crew.now.decks crew.now.board me.new) }
+        IsMeOf crew.now.table crew.now.decks crew.now.board me.new) }
     ensures path { IfOk result (λ tried.
-        IsOwnPiece tried (me_seen T.seen me.old) (me_seen T.seen me.new)) }
+        IsOwnPiece tried (me_seen me.old) (me_seen me.new)) }
     ensures pass { me.new.pass ≡ me.old.pass }
     ensures failed { IfErr result (λ stop. stop ≡ Memory) }
 {
@@ -84,17 +84,17 @@ fn next_victim(tries: &mut Tries) -> Option<u32>
 }
 
 /// Tries to steal one piece, if there is another worker, and claims and runs what the steal gives.
-pub(crate) fn steal_other_piece<T: Table, G: Pause, R: Wait>(
+pub(crate) fn steal_other_piece<G: Pause, R: Wait>(
     rt: &R,
     alloc: Global,
-    crew: &Crew<T, G>,
-    me: &mut Me<T::Pass>,
+    crew: &Crew<G>,
+    me: &mut Me,
 ) -> Result<PieceAttempt, Stop>
-    requires me { IsMeOf (T.gave crew.now.table) T.seen crew.now.decks crew.now.board me.old }
+    requires me { IsMeOf crew.now.table crew.now.decks crew.now.board me.old }
     ensures me { IfOk result (λ _.
-        IsMeOf (T.gave crew.now.table) T.seen crew.now.decks crew.now.board me.new) }
+        IsMeOf crew.now.table crew.now.decks crew.now.board me.new) }
     ensures path { IfOk result (λ tried.
-        IsOtherPiece tried (me_seen T.seen me.old) (me_seen T.seen me.new)) }
+        IsOtherPiece tried (me_seen me.old) (me_seen me.new)) }
     ensures pass { me.new.pass ≡ me.old.pass }
     ensures failed { IfErr result (λ stop. stop ≡ Memory) }
 {

@@ -2,6 +2,8 @@
 ghost use Rattle.std.specs.Prelude.{◌≡◌, ◌<◌, [], IfOk, IfErr};
 ghost use Rattle.piece_board.specs.Boards.{desk_view};
 ghost use Rattle.two_deques.specs.Hands.{held};
+ghost use Rattle.core_model.specs.Operations.{op_of};
+ghost use Rattle.core_table.specs.Passes.{IsPassOf, job_in, pass_view};
 ghost use Rattle.worker_crew.specs.Passes.{IsTrapped};
 ghost use Rattle.worker_crew.specs.Workers.{me_seen, IsMeOf};
 ghost use Rattle.worker_turns.specs.Stops.{IsStop};
@@ -15,7 +17,7 @@ use bt_io::{Pause, Point};
 use core_model::Receipt;
 use std::alloc::Global;
 use std::sync::Wait;
-use worker_crew::{Crew, Me, Stop, Table};
+use worker_crew::{Crew, Me, Stop};
 
 /// The outcome of a trapped worker's turn.
 #[derive(Clone, Copy)]
@@ -33,30 +35,30 @@ pub enum Trapped {
 /// One turn of a trapped worker. It looks at the stop word, and then tries in this order: to run a piece of its own
 /// deque; to leave; to win the flag and launch; and to steal one piece. The first that succeeds ends the turn.
 #[tactic(auto, using(crate::proofs::CarryLemmas::Steps::front_none))]
-pub fn trapped_turn<T: Table, G: Pause, R: Wait>(
+pub fn trapped_turn<G: Pause, R: Wait>(
     rt: &R,
     alloc: Global,
-    crew: &Crew<T, G>,
-    me: &mut Me<T::Pass>,
+    crew: &Crew<G>,
+    me: &mut Me,
 ) -> Result<Trapped, Stop>
-    requires me { IsMeOf (T.gave crew.now.table) T.seen crew.now.decks crew.now.board me.old }
-    requires trapped { IsTrapped (T.seen me.old.pass) }
+    requires me { IsMeOf crew.now.table crew.now.decks crew.now.board me.old }
+    requires trapped { IsTrapped (pass_view me.old.pass) }
     requires free { (desk_view me.old.desk).posted ≡ [] }
-    requires workers { crew.now.workers ≡ T.workers crew.now.table }
-    ensures pass { T.gave crew.now.table me.new.pass }
+    requires workers { crew.now.workers ≡ (job_in crew.now.table).workers }
+    ensures pass { IsPassOf crew.now.table me.new.pass }
     ensures me { IfOk result (λ _.
-        IsMeOf (T.gave crew.now.table) T.seen crew.now.decks crew.now.board me.new) }
-    ensures path { IfOk result (λ turn. IsTrappedTurn (T.workers crew.now.table) turn
-        (me_seen T.seen me.old) (me_seen T.seen me.new)) }
+        IsMeOf crew.now.table crew.now.decks crew.now.board me.new) }
+    ensures path { IfOk result (λ turn. IsTrappedTurn (job_in crew.now.table).workers turn
+        (me_seen me.old) (me_seen me.new)) }
     ensures stays { IfOk result (λ turn. StaysTrapped turn
-        (T.seen me.old.pass) (T.seen me.new.pass)) }
-    ensures own { IfOk result (λ turn. LeftOwnOp (T.op_of crew.now.table) turn (T.seen me.new.pass)) }
+        (pass_view me.old.pass) (pass_view me.new.pass)) }
+    ensures own { IfOk result (λ turn. LeftOwnOp (op_of (job_in crew.now.table)) turn (pass_view me.new.pass)) }
     ensures looked { IfOk result (λ _.
-        (T.seen me.old.pass).stop_looks < (T.seen me.new.pass).stop_looks) }
+        (pass_view me.old.pass).stop_looks < (pass_view me.new.pass).stop_looks) }
     ensures free { IfOk result (λ _. (desk_view me.new.desk).posted ≡ []) }
     ensures core { IfOk result (λ _. (held me.new.hand).core ≡ (held me.old.hand).core) }
     ensures helps { IfOk result (λ _. Helps (desk_view me.old.desk) (desk_view me.new.desk)) }
-    ensures stopped { IfErr result (λ stop. IsStop stop (T.seen me.old.pass) (T.seen me.new.pass)) }
+    ensures stopped { IfErr result (λ stop. IsStop stop (pass_view me.old.pass) (pass_view me.new.pass)) }
 {
     if crew.table.stopped(&mut me.pass) {
         return Err(Stop::Stopped);

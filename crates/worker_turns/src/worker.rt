@@ -1,32 +1,34 @@
 //! The loop of one worker.
 ghost use Rattle.std.specs.Prelude.{◌≡◌, ◌⊎◌, true, false};
+ghost use Rattle.core_table.specs.Passes.{IsPassOf, job_in, pass_view, view};
 ghost use Rattle.worker_crew.specs.Workers.{IsReady};
 ghost use Rattle.worker_turns.specs.Stops.{KnowsStop};
 
 use crate::back_off::back_off;
 use crate::free::{Did, free_turn};
 use bt_io::Pause;
+use core_table::Pass;
 use crossbeam_utils::Backoff;
 use std::alloc::Global;
 use std::sync::Wait;
-use worker_crew::{Crew, Me, Stop, Table};
+use worker_crew::{Crew, Me, Stop};
 
 /// One free turn of a worker, unless the root is done, and the backoff after it. Returns whether the worker goes on. If
 /// memory runs out in the turn, the worker sets the stop word to stop the others.
-fn turn<T: Table, G: Pause, R: Wait>(
+fn turn<G: Pause, R: Wait>(
     rt: &R,
     alloc: Global,
-    crew: &Crew<T, G>,
-    me: &mut Me<T::Pass>,
+    crew: &Crew<G>,
+    me: &mut Me,
     backoff: &Backoff,
 ) -> bool
-    requires ready { IsReady (T.gave crew.now.table) T.seen crew.now.decks crew.now.board me.old }
-    requires workers { crew.now.workers ≡ T.workers crew.now.table }
-    ensures pass { T.gave crew.now.table me.new.pass }
+    requires ready { IsReady crew.now.table crew.now.decks crew.now.board me.old }
+    requires workers { crew.now.workers ≡ (job_in crew.now.table).workers }
+    ensures pass { IsPassOf crew.now.table me.new.pass }
     ensures ready { result ≡ true
-        → IsReady (T.gave crew.now.table) T.seen crew.now.decks crew.now.board me.new }
+        → IsReady crew.now.table crew.now.decks crew.now.board me.new }
     ensures ended { result ≡ false
-        → T.saw_done me.new.pass ⊎ KnowsStop (T.seen me.new.pass) }
+        → ((view me.new.pass).saw_done ≡ true) ⊎ KnowsStop (pass_view me.new.pass) }
 {
     if crew.table.root_done(&mut me.pass) {
         return false;
@@ -46,16 +48,11 @@ fn turn<T: Table, G: Pause, R: Wait>(
 
 /// A worker's main loop: takes turns until the worker sees the root done, sets the stop word or finds it set. Returns
 /// its pass.
-pub fn work<T: Table, G: Pause, R: Wait>(
-    rt: &R,
-    alloc: Global,
-    crew: &Crew<T, G>,
-    me: Me<T::Pass>,
-) -> T::Pass
-    requires ready { IsReady (T.gave crew.now.table) T.seen crew.now.decks crew.now.board me }
-    requires workers { crew.now.workers ≡ T.workers crew.now.table }
-    ensures pass { T.gave crew.now.table result }
-    ensures ended { T.saw_done result ⊎ KnowsStop (T.seen result) }
+pub fn work<G: Pause, R: Wait>(rt: &R, alloc: Global, crew: &Crew<G>, me: Me) -> Pass
+    requires ready { IsReady crew.now.table crew.now.decks crew.now.board me }
+    requires workers { crew.now.workers ≡ (job_in crew.now.table).workers }
+    ensures pass { IsPassOf crew.now.table result }
+    ensures ended { ((view result).saw_done ≡ true) ⊎ KnowsStop (pass_view result) }
 {
     let mut me = me;
     let backoff = Backoff::new();

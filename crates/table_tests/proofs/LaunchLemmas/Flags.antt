@@ -25,9 +25,10 @@ use Rattle.table_rule.proofs.ListLemmas.CallCounts.{room_few}
 use Rattle.core_table.specs.declared.table.CoreTable.{CoreTable}
 use Rattle.core_table.specs.declared.table.Pass.{Pass}
 use Rattle.core_table.specs.Passes.{IsPassOf, job_in, view, pass_view}
-use Rattle.worker_crew.specs.Holds.{workers_in, IsAnswerDue}
-use Rattle.worker_crew.proofs.SeatLemmas.Fits.{fit_taken, fit_passed}
-use Rattle.worker_crew.proofs.SeatLemmas.Serving as serving
+use Rattle.worker_turns.specs.Holds.{workers_in}
+use Rattle.worker_turns.proofs.HoldLemmas.Fits.{fit_taken, fit_passed}
+use Rattle.worker_turns.proofs.HoldLemmas.Serving as serving
+use Rattle.worker_turns.proofs.HoldLemmas.Taken.{took_taken}
 use Rattle.table_tests.specs.Adds.{IsTwoAdds}
 use Rattle.table_tests.specs.Launches.{HasFlag, Answers}
 
@@ -60,12 +61,8 @@ module _ (t : CoreTable) (node n : ℕ) (before : List (List Entry)) (calls : Li
   flag_due batch some s size = (
     f.h,
     f.hold,
-    serving.publish_due (job_in t).workers f.h batch (record {
-      looked = f.taken.looks ∙ size;
-      early = f.taken.early;
-      may = f.taken.fit.serve (λ e. not_none calls some (sym f.taken.taken ∙ e));
-      service = serves batch s;
-    }),
+    serving.publish_due (job_in t).workers f.h batch (f.taken.looks ∙ size) f.taken.early
+        (f.taken.fit.serve (λ e. not_none calls some (sym f.taken.taken ∙ e))) (serves batch s),
   )
 
   module _ (q : Pass) (own : IsPassOf t q) where
@@ -158,19 +155,7 @@ module _ (t : CoreTable) (node : ℕ) (before : List (List Entry)) (batch : List
 
   due_now : (number : ℕ) → i < length batch → length before ≡ number → Due number
   due_now number low is =
-      let entry = get_or batch i d in
-      let receipt : Receipt = record { batch = number; place = i; reply = entry.reply } in
-      let due : IsAnswerDue entry.worker receipt a.h = record {
-        before = before;
-        batch = batch;
-        published = a.answered.published;
-        number = sym is;
-        answered = a.answered.answered;
-        entry = entry;
-        there = slice_get-get_or batch i d low;
-        worker = refl;
-        reply = refl;
-      } in serving.answer_due a.h entry.worker receipt due
+      serving.answer_due a.h before batch number i (get_or batch i d) a.answered.published (sym is) a.answered.answered (slice_get-get_or batch i d low)
 
   -- an answer
   pub answer_due : (number : ℕ) → i < length batch → length before ≡ number
@@ -208,10 +193,6 @@ all_answered t node before batch p a =
     let all = a.answered.answered ∙ take_all (length batch) (workers_in batch) (omega (arith, long)) in (
       a.h,
       a.hold,
-      serving.release_due (job_in t).workers a.h a.h.book (record {
-        looked = a.answered.looks;
-        book = refl;
-        done = inr (before, batch, record { published = a.answered.published; answered = all });
-      }),
+      serving.release_due (job_in t).workers a.h a.answered.looks (inr (before, batch, record { published = a.answered.published; answered = all })),
       sym a.answered.published.book,
     )

@@ -12,20 +12,20 @@ use Rattle.piece_board.specs.Boards.{desk_view, IsDeskOf}
 use Rattle.piece_board.specs.Desks.{fresh_desk}
 use Rattle.launch_batch.specs.declared.piece.PieceIn.{PieceIn}
 use Rattle.launch_batch.specs.declared.piece.PieceOut.{PieceOut}
+use Rattle.core_table.specs.declared.table.CoreTable.{CoreTable}
+use Rattle.core_table.specs.Passes.{IsPassOf, pass_view}
 use Rattle.worker_crew.specs.declared.batch_pieces.BatchPieces.{BatchPieces}
 use Rattle.worker_crew.specs.declared.crew.Me.{Me}
-use Rattle.table_rule.specs.declared.view.PassView.{PassView}
 use Rattle.worker_crew.specs.Opening.{with_root, opening_hand, IsFreshPass, IsAtStart, AreAtStart}
 
 worker_by : (b : Bool) (h : Held) → (if b then with_root h else h).worker ≡ h.worker
 worker_by true h = refl
 worker_by false h = refl
 
-module _ {Pass : Type 0} (gave : Pass → Type 0) (seen : Pass → PassView) (decks : Decks)
-    (board : Board BatchPieces PieceIn PieceOut) (workers : ℕ) where
-  pub at_start : (worker : ℕ) (me : Me Pass) → gave me.pass × IsFreshPass worker (seen me.pass) → IsHandOf decks me.hand → held me.hand ≡ opening_hand worker workers
+module _ (table : CoreTable) (decks : Decks) (board : Board BatchPieces PieceIn PieceOut) (workers : ℕ) where
+  pub at_start : (worker : ℕ) (me : Me) → IsPassOf table me.pass × IsFreshPass worker (pass_view me.pass) → IsHandOf decks me.hand → held me.hand ≡ opening_hand worker workers
       → IsDeskOf board me.desk → desk_view me.desk ≡ fresh_desk worker → me.tries ≡ first_tries worker workers
-      → workers_of decks ≡ workers → IsAtStart gave seen decks board workers worker me
+      → workers_of decks ≡ workers → IsAtStart table decks board workers worker me
   at_start worker me pass hand opening desk fresh tries count =
       let own : (held me.hand).worker ≡ worker =
       ap (λ (h : Held). h.worker) opening ∙ worker_by (worker == 0) (fresh_hand worker workers) in record {
@@ -48,16 +48,16 @@ module _ {Pass : Type 0} (gave : Pass → Type 0) (seen : Pass → PassView) (de
         tries = tries;
       }
 
-  pub one_more : (n : ℕ) (mes : List (Me Pass)) (me : Me Pass) → AreAtStart gave seen decks board workers n mes
-      → IsAtStart gave seen decks board workers n me
-      → AreAtStart gave seen decks board workers (n + 1) (mes ++ me ∷ [])
+  pub one_more : (n : ℕ) (mes : List Me) (me : Me) → AreAtStart table decks board workers n mes
+      → IsAtStart table decks board workers n me
+      → AreAtStart table decks board workers (n + 1) (mes ++ me ∷ [])
   one_more n mes me so_far start = record {
     count = omega (arith, length_push mes me, so_far.count);
     each = λ w other lt at. dite (ℕ_discrete w n)
         (λ (is : w ≡ n).
         let same : me ≡ other = sym (at ∙ get_or_push mes me other w (so_far.count ∙ sym is)) in
-        subst (λ (q : Me Pass). IsAtStart gave seen decks board workers w q) same
-        (subst (λ (k : ℕ). IsAtStart gave seen decks board workers k me) (sym is) start))
+        subst (λ (q : Me). IsAtStart table decks board workers w q) same
+        (subst (λ (k : ℕ). IsAtStart table decks board workers k me) (sym is) start))
         (λ (ne : w ≢ n).
         let less : w < n = omega (arith, lt, ne) in
         so_far.each w other less (at ∙ get_or_append_left mes (me ∷ []) other w (omega (arith, so_far.count, less))));

@@ -1,7 +1,8 @@
-//! Construction of a crew over `CoreTable`, and of its workers, at the start of a run.
+//! Construction of a crew, and of its workers, at the start of a run.
 ghost use Rattle.std.specs.Prelude.{◌≡◌, ◌*◌, ◌<◌, ◌≤◌, ℕ, length, slice_index_or, Some, IsSome, IfOk};
 ghost use Rattle.std.specs.List.{count_by};
 ghost use Rattle.sp_order.specs.Preorder.{nodes_of};
+ghost use Rattle.core_table.specs.declared.table.Pass.{Pass as PassOf};
 ghost use Rattle.core_table.specs.Passes.{IsPassOf, job_in, pass_view, planned_in};
 ghost use Rattle.two_deques.specs.Hands.{core_room_of, batch_room_of};
 ghost use Rattle.two_deques.specs.Hands.{held, workers_of, fresh_hand, IsHandOf, AreHands};
@@ -10,7 +11,6 @@ ghost use Rattle.worker_crew.specs.Opening.{is_call, opening_hand, IsFreshPass, 
 
 use crate::batch_pieces::BatchPieces;
 use crate::crew::{Crew, Me};
-use crate::table::Table;
 use bt_io::Pause;
 use core_table::{CoreTable, Pass};
 use piece_board::{Board, Desk};
@@ -49,25 +49,23 @@ fn opening(decks: &Decks, hand: Hand) -> Result<Hand, AllocError>
 }
 
 /// The workers' initial states, indexed by worker.
-fn mes_of<T: Table, G: Pause>(
+fn mes_of<G: Pause>(
     alloc: Global,
-    crew: &Crew<T, G>,
-    passes: Vec<T::Pass>,
+    crew: &Crew<G>,
+    passes: Vec<Pass>,
     hands: Vec<Hand>,
     desks: Vec<Desk<BatchPieces>>,
-) -> Result<Vec<Me<T::Pass>>, AllocError>
-where
-    T::Pass: Drop,
+) -> Result<Vec<Me>, AllocError>
     requires workers { (crew.now.workers ≡ workers_of crew.now.decks) × (crew.now.workers ≤ 32)
         × (rows_of crew.now.board ≡ crew.now.workers) }
     requires count { length passes.items ≡ crew.now.workers }
-    requires passes { (w : ℕ) (pass : T.Pass) → w < crew.now.workers
+    requires passes { (w : ℕ) (pass : PassOf) → w < crew.now.workers
         → pass ≡ slice_index_or passes.items w pass
-        → T.gave crew.now.table pass × IsFreshPass w (T.seen pass) }
+        → IsPassOf crew.now.table pass × IsFreshPass w (pass_view pass) }
     requires hands { AreHands crew.now.decks hands.items }
     requires desks { AreDesks crew.now.board desks.items }
-    ensures { IfOk result (λ mes. AreAtStart (T.gave crew.now.table) T.seen crew.now.decks
-        crew.now.board crew.now.workers crew.now.workers mes.items) }
+    ensures { IfOk result (λ mes. AreAtStart crew.now.table crew.now.decks crew.now.board
+        crew.now.workers crew.now.workers mes.items) }
 {
     let mut passes = passes;
     let mut hands = hands;
@@ -84,8 +82,8 @@ where
     Ok(mes)
 }
 
-impl<'a, G: Pause> Crew<'a, CoreTable, G> {
-    /// The crew of a non-empty job over `CoreTable`, and its workers, indexed by worker. Node 0 is on the deque of
+impl<'a, G: Pause> Crew<'a, G> {
+    /// The crew of a non-empty job, and its workers, indexed by worker. Node 0 is on the deque of
     /// worker 0. Over its lifetime, each deque of nodes is sure to take one push for each node of the job, and each
     /// deque of pieces eight for each leaf that calls.
     pub fn make(
@@ -93,7 +91,7 @@ impl<'a, G: Pause> Crew<'a, CoreTable, G> {
         job: &Job,
         workers: u32,
         pause: &'a G,
-    ) -> Result<(Crew<'a, CoreTable, G>, Vec<Me<Pass>>), AllocError>
+    ) -> Result<(Crew<'a, G>, Vec<Me>), AllocError>
         requires leaves { IsSome job.now.shape }
         requires some_workers { 0 < workers }
         requires few_workers { workers ≤ 32 }
@@ -104,8 +102,8 @@ impl<'a, G: Pause> Crew<'a, CoreTable, G> {
         ensures rooms { IfOk result (λ made.
             (core_room_of made.0.decks ≡ (job_in made.0.table).plan.count)
             × (batch_room_of made.0.decks ≡ 8 * count_by is_call job.now.acts)) }
-        ensures start { IfOk result (λ made. AreAtStart (IsPassOf made.0.table) pass_view made.0.decks
-            made.0.board workers workers made.1.items) }
+        ensures start { IfOk result (λ made. AreAtStart made.0.table made.0.decks made.0.board
+            workers workers made.1.items) }
     {
         let (table, passes) = CoreTable::make(alloc, job, workers)?;
         let nodes = table.job().nodes();

@@ -7,7 +7,7 @@ use Rattle.two_deques.specs.Ends.{HeldEnds, after_push}
 use Rattle.worker_crew.specs.Words.{Event, Task, CallState, Receipt}
 use Rattle.table_rule.specs.declared.view.PassView.{PassView}
 use Rattle.table_rule.specs.Passes.{opening, with_task}
-use Rattle.worker_crew.specs.Passes.{IsFront}
+use Rattle.table_rule.specs.Shows.{IsFront}
 use Rattle.worker_crew.specs.Workers.{MeSeen}
 use Rattle.worker_turns.specs.Pieces.{Desk, DrainsRow}
 use Rattle.worker_turns.specs.declared.trapped.Trapped.{Trapped}

@@ -1,54 +1,67 @@
 -- The answers of a launch.
-use Rattle.std.proofs.Common.{◌≡◌, ℕ, zero, suc, ◌+◌, ◌<◌, ◌≤◌, Option, None, Some, List, [], ◌∷◌, ◌++◌, length, take, get_or, sym, refl, ap, ◌∙◌, subst, arith, append_assoc, append-nil}
+use Rattle.std.proofs.Common.{◌≡◌, ℕ, zero, suc, ◌+◌, ◌<◌, ◌≤◌, true, false, Option, None, Some, List, [], ◌∷◌, ◌++◌, length, take, get_or, sym, refl, ap, ◌∙◌, subst, arith, append_assoc, append-nil}
 use Rattle.std.specs.Prelude.{slice_get}
 use Rattle.std.proofs.lemmas.List.{take_more, map-append}
 use Rattle.core_model.specs.Words.{Entry}
+use Rattle.core_model.specs.Operations.{place_of, IsReceipt}
+use Rattle.table_rule.specs.declared.slot.OpRecord.{OpRecord}
+use Rattle.table_rule.specs.Shows.{record_in, among}
+use Rattle.core_table.specs.declared.table.CoreTable.{CoreTable}
+use Rattle.core_table.specs.declared.table.Pass.{Pass}
+use Rattle.core_table.specs.Passes.{IsPassOf, job_in, pass_view}
+use Rattle.core_table.proofs.PassLemmas.PassKept.{looks_at}
+use Rattle.table_rule.proofs.TableLemmas.Moved.{record_took}
 use Rattle.worker_crew.specs.Words.{Receipt}
 use Rattle.table_rule.specs.declared.view.HoldView.{HoldView}
 use Rattle.table_rule.specs.Passes.{after_answer, in_hold, answering, without_first}
-use Rattle.worker_crew.specs.Holds.{workers_in, IsAnswerDue}
+use Rattle.worker_turns.specs.Holds.{workers_in}
 use Rattle.table_rule.specs.declared.view.PassView.{PassView}
-use Rattle.worker_crew.specs.Passes.{Holds, IsHeld}
 use Rattle.core_model.specs.declared.event.Event.TheVariants.{Answer}
 use Rattle.worker_turns.specs.Launches.{answer_events}
-use Rattle.worker_turns.specs.Code.Serving.{after_answers, answered_all, without_all, IsAnswerable}
+use Rattle.worker_turns.specs.Code.Serving.{Holds, after_answers, answered_all, without_all, IsAnswerable}
+use Rattle.worker_turns.proofs.HoldLemmas.Serving as serving
 
 none_in : (number : ℕ) (batch : List Entry) (h : Option HoldView) → Holds (IsAnswerable number batch) h → h ≡ in_hold (after_answers []) h
 none_in number batch None due = absurd due
 none_in number batch (Some h) due = λ i. Some (record h { answered = due.none i })
 
-pub none_answered : (p : PassView) (number : ℕ) (batch : List Entry) → IsHeld p (IsAnswerable number batch) → p ≡ answered_all number [] p
-none_answered p number batch held = λ i. record p { hold = none_in number batch p.hold held.1 i; events = sym (append-nil p.events) i }
+pub none_answered : (p : PassView) (number : ℕ) (batch : List Entry) → Holds (IsAnswerable number batch) p.hold → p ≡ answered_all number [] p
+none_answered p number batch due = λ i. record p { hold = none_in number batch p.hold due i; events = sym (append-nil p.events) i }
 
 taken_workers : (k : ℕ) (batch : List Entry) → take k (workers_in batch) ≡ workers_in (take k batch)
 taken_workers zero batch = refl
 taken_workers (suc k) [] = refl
 taken_workers (suc k) (e ∷ batch) = ap (λ l. e.worker ∷ l) (taken_workers k batch)
 
-due_in : (number k : ℕ) (batch : List Entry) (e : Entry) (receipt : Receipt) (h : Option HoldView) → slice_get batch k ≡ Some e
-    → receipt ≡ record { batch = number; place = k; reply = e.reply } → Holds (IsAnswerable number batch) h
-    → Holds (IsAnswerDue e.worker receipt) (in_hold (after_answers (take k (workers_in batch))) h)
-due_in number k batch e receipt None at is due = absurd due
-due_in number k batch e receipt (Some h) at is due = record {
-  before = due.before;
-  batch = batch;
-  published = record { published = due.published.published; book = due.published.book; may = due.published.may; service = due.published.service };
-  number = ap (λ (r : Receipt). r.batch) is ∙ due.numbered;
-  answered = ap (λ (n : ℕ). take n (workers_in batch)) (sym (ap (λ (r : Receipt). r.place) is));
-  entry = e;
-  there = ap (slice_get batch) (ap (λ (r : Receipt). r.place) is) ∙ at;
-  worker = refl;
-  reply = sym (ap (λ (r : Receipt). r.reply) is);
-}
+-- what an answer needs of the hold
+abbrev pub MayAnswer : ℕ → Receipt → Option HoldView → Type 0
+MayAnswer u receipt hold = (h : HoldView) × (call : OpRecord) × (hold ≡ Some h) × (h.published ≡ true) × (record_in h.taken u ≡ Some call)
+    × (among h.answered u ≡ false) × IsReceipt (place_of h.book call.leaf) receipt
+
+due_in : (number k : ℕ) (batch : List Entry) (e : Entry) (h : Option HoldView) → slice_get batch k ≡ Some e → Holds (IsAnswerable number batch) h
+    → MayAnswer e.worker (record { batch = number; place = k; reply = e.reply }) (in_hold (after_answers (take k (workers_in batch))) h)
+due_in number k batch e None at due = absurd due
+due_in number k batch e (Some h) at due =
+    let now = after_answers (take k (workers_in batch)) h in
+    let published = due.published in
+    let may = serving.answer_due now due.before batch number k e
+    (record { published = published.published; book = published.book; may = published.may; service = published.service }) due.numbered refl at in
+    (now, may.0, refl, may.1, may.2, may.3, may.4)
 
 pub answer_due : (p q : PassView) (number k : ℕ) (batch : List Entry) (e : Entry) (receipt : Receipt) → slice_get batch k ≡ Some e
-    → receipt ≡ record { batch = number; place = k; reply = e.reply } → IsHeld p (IsAnswerable number batch)
-    → q ≡ answered_all number (take k batch) p → IsHeld q (IsAnswerDue e.worker receipt)
-answer_due p q number k batch e receipt at is held now =
-    subst (λ (r : PassView). IsHeld r (IsAnswerDue e.worker receipt)) (sym now) (
-      held.0,
-      subst (λ (ws : List ℕ). Holds (IsAnswerDue e.worker receipt) (in_hold (after_answers ws) p.hold)) (taken_workers k batch) (due_in number k batch e receipt p.hold at is held.1),
-    )
+    → receipt ≡ record { batch = number; place = k; reply = e.reply } → Holds (IsAnswerable number batch) p.hold
+    → q ≡ answered_all number (take k batch) p → MayAnswer e.worker receipt q.hold
+answer_due p q number k batch e receipt at is due now =
+    subst (λ (r : PassView). MayAnswer e.worker receipt r.hold) (sym now)
+    (subst (λ (ws : List ℕ). MayAnswer e.worker receipt (in_hold (after_answers ws) p.hold)) (taken_workers k batch)
+    (subst (λ (r : Receipt). MayAnswer e.worker r (in_hold (after_answers (take k (workers_in batch))) p.hold)) (sym is) (due_in number k batch e p.hold at due)))
+
+-- a worker that may be answered is one of the table's
+pub answer_low : (table : CoreTable) (pass : Pass) (u : ℕ) (receipt : Receipt) → IsPassOf table pass → MayAnswer u receipt (pass_view pass).hold → u < (job_in table).workers
+answer_low table pass u receipt own due =
+    let below = (own.8.holds due.0 due.2).2.below u (record_took due.0.taken u due.1 due.4) in
+    let looks = looks_at (job_in table).workers (pass_view pass).hold due.0 own.10 due.2 in
+    omega (arith, below, looks)
 
 -- one more taken out of a list
 without_more : (ws : List ℕ) (u : ℕ) (xs : List ℕ) → without_first u (without_all ws xs) ≡ without_all (ws ++ u ∷ []) xs

@@ -9,13 +9,14 @@ use Rattle.seq_objects.specs.declared.call.Call.{Call}
 use Rattle.core_model.specs.Words.{Entry}
 use Rattle.table_rule.specs.declared.view.HoldView.{HoldView}
 use Rattle.table_rule.specs.Passes.{after_publish, in_hold, publishing}
-use Rattle.worker_crew.specs.Holds.{IsPublishDue, workers_in}
+use Rattle.table_rule.specs.Batches.{IsPublishDue}
+use Rattle.worker_turns.specs.Holds.{workers_in}
 use Rattle.table_rule.specs.declared.view.PassView.{PassView}
-use Rattle.worker_crew.specs.Passes.{Holds, IsHeld, is_trapped}
 use Rattle.core_model.specs.declared.event.Event.TheVariants.{Publish}
 use Rattle.worker_turns.specs.Stops.{HasOnlyLooked}
 use Rattle.worker_turns.specs.Launches.{answer_events, serve_events}
-use Rattle.worker_turns.specs.Code.Serving.{IsAnswerable, HasTaken, after_service, after_answers, answered_all}
+use Rattle.worker_turns.specs.Code.Serving.{Holds, IsAnswerable, HasTaken, taken_hold, after_service, after_answers, answered_all}
+use Rattle.worker_turns.proofs.HoldLemmas.Serving.{publish_due}
 
 same_length : {X : Type 0} (xs ys : List X) → AreSame xs ys → length ys ≡ length xs
 same_length [] ys same = ap (λ l. length l) same
@@ -34,27 +35,25 @@ few_in number batch (Some h) due =
     let most = due.published.may.most in
     omega (arith, same, m, most)
 
-pub few_answers : (p : PassView) (number : ℕ) (batch : List Entry) → IsHeld p (IsAnswerable number batch) → length batch ≤ 20000
-few_answers p number batch held = few_in number batch p.hold held.1
+pub few_answers : (p : PassView) (number : ℕ) (batch : List Entry) → Holds (IsAnswerable number batch) p.hold → length batch ≤ 20000
+few_answers p number batch held = few_in number batch p.hold held
 
 -- the batch that serves the taken calls can be published
-pub publishable : (p q : PassView) (workers : ℕ) (calls : List Call) (book : List (List Entry)) (batch : List Entry) → is_trapped p.call ≡ true
-    → HasTaken workers calls book p.hold → MayServe book calls → IsServiceOf book calls batch → HasOnlyLooked p q → IsHeld q (IsPublishDue workers batch)
-publishable p q workers calls book batch trapped (found, hold) may service looks = let same = looks.same in (
-  ap (λ (s : PassView). is_trapped s.call) same ∙ trapped,
-  subst (Holds (IsPublishDue workers batch)) (sym (ap (λ (s : PassView). s.hold) same ∙ hold)) (record { looked = refl; early = refl; may = may; service = service }),
-)
+pub publishable : (p q : PassView) (workers : ℕ) (calls : List Call) (book : List (List Entry)) (batch : List Entry)
+    → HasTaken workers calls book p.hold → MayServe book calls → IsServiceOf book calls batch → HasOnlyLooked p q
+    → (h : HoldView) × (q.hold ≡ Some h) × IsPublishDue workers h batch
+publishable p q workers calls book batch (found, hold) may service looks =
+    let h = taken_hold workers found calls book in
+    (h, ap (λ (s : PassView). s.hold) looks.same ∙ hold, publish_due workers h batch refl refl may service)
 
 -- the batch that was published can be answered
-pub answerable : (p q r : PassView) (workers number : ℕ) (calls : List Call) (book : List (List Entry)) (batch entries : List Entry) → is_trapped p.call ≡ true
+pub answerable : (p q r : PassView) (workers number : ℕ) (calls : List Call) (book : List (List Entry)) (batch entries : List Entry)
     → HasTaken workers calls book p.hold → MayServe book calls → IsServiceOf book calls batch → HasOnlyLooked p q → r ≡ publishing batch q
-    → number ≡ length book → entries ≡ batch → IsHeld r (IsAnswerable number entries)
-answerable p q r workers number calls book batch entries trapped (found, hold) may service looks now is all = let same = looks.same in (
-  ap (λ (s : PassView). is_trapped s.call) now ∙ ap (λ (s : PassView). is_trapped s.call) same ∙ trapped,
-  subst (λ (es : List Entry). Holds (IsAnswerable number es) r.hold) (sym all)
-      (subst (Holds (IsAnswerable number batch)) (sym (ap (λ (s : PassView). s.hold) now ∙ ap (λ (s : PassView). (publishing batch s).hold) same ∙ ap (in_hold _) hold))
-      (record { before = book; published = record { published = refl; book = refl; may = may; service = service }; numbered = is; none = refl })),
-)
+    → number ≡ length book → entries ≡ batch → Holds (IsAnswerable number entries) r.hold
+answerable p q r workers number calls book batch entries (found, hold) may service looks now is all =
+    subst (λ (es : List Entry). Holds (IsAnswerable number es) r.hold) (sym all)
+    (subst (Holds (IsAnswerable number batch)) (sym (ap (λ (s : PassView). s.hold) now ∙ ap (λ (s : PassView). (publishing batch s).hold) looks.same ∙ ap (in_hold _) hold))
+    (record { before = book; published = record { published = refl; book = refl; may = may; service = service }; numbered = is; none = refl }))
 
 -- no batch is empty, so there are no more batches than entries
 few_batches : (book : List (List Entry)) → AllByRecursion IsBatch book → length book ≤ length (flat book)

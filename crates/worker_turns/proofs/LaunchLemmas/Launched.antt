@@ -7,12 +7,13 @@ use Rattle.launch_batch.specs.Calls.{MayServe}
 use Rattle.worker_crew.specs.Words.{Event}
 use Rattle.table_rule.specs.declared.view.HoldView.{HoldView}
 use Rattle.table_rule.specs.Passes.{new_hold, in_hold, releasing}
-use Rattle.worker_crew.specs.Holds.{AreFit, IsReleaseDue}
+use Rattle.table_rule.specs.Batches.{IsReleaseDue}
+use Rattle.worker_turns.specs.Holds.{AreFit}
 use Rattle.table_rule.specs.declared.view.PassView.{PassView}
-use Rattle.worker_crew.specs.Passes.{Holds, IsHeld, is_trapped}
 use Rattle.worker_crew.specs.Workers.{MeSeen}
 use Rattle.worker_turns.specs.Launches.{Launches, look_events, serve_events, launch_events}
-use Rattle.worker_turns.specs.Code.Serving.{after_looks, looked, taken_hold, after_service, HasLooked, HasTaken, ServesBatch}
+use Rattle.worker_turns.specs.Code.Serving.{Holds, after_looks, looked, taken_hold, after_service, HasLooked, HasTaken, ServesBatch}
+use Rattle.worker_turns.proofs.HoldLemmas.Serving.{release_due}
 
 -- the hold after the looks
 hold_looked : (p q : PassView) (workers : ℕ) (found : List ℕ) (calls : List Call) (book : List (List Entry)) → p.hold ≡ Some (new_hold book) → q ≡ looked workers found calls p
@@ -37,13 +38,11 @@ released_from p q workers looks h served is =
     })
 
 -- nothing was taken
-pub none_release : (p q : PassView) (workers : ℕ) (calls : List Call) (book : List (List Entry)) → is_trapped p.call ≡ true → p.hold ≡ Some (new_hold book)
-    → HasLooked workers calls p q → calls ≡ [] → IsHeld q (IsReleaseDue workers book)
-none_release p q workers calls book trapped won (found, are, is) none = (
-  ap (λ (r : PassView). is_trapped r.call) is ∙ trapped,
-  subst (Holds (IsReleaseDue workers book)) (sym (hold_looked p q workers found calls book won is))
-      (record { looked = refl; book = refl; done = inl (record { none = none; early = refl }) }),
-)
+pub none_release : (p q : PassView) (workers : ℕ) (calls : List Call) (book : List (List Entry)) → p.hold ≡ Some (new_hold book)
+    → HasLooked workers calls p q → calls ≡ [] → (h : HoldView) × (q.hold ≡ Some h) × IsReleaseDue workers h × (book ≡ h.book)
+none_release p q workers calls book won (found, are, is) none =
+    let h = taken_hold workers found calls book in
+    (h, hold_looked p q workers found calls book won is, release_due workers h refl (inl (record { none = none; early = refl })), refl)
 
 -- the pass of a release, by its own number of looks
 by_looks : (old : PassView) (new : PassView) (h : HoldView) (book : List (List Entry)) (events : List Event) (looks : ℕ)
@@ -78,16 +77,15 @@ none_launched old new q workers calls book won (found, are, is) none now free =
     }
 
 -- the calls that were taken were served
-pub served_release : (old new : MeSeen) (workers : ℕ) (calls : List Call) (book after : List (List Entry)) → is_trapped old.pass.call ≡ true → HasTaken workers calls book old.pass.hold
-    → MayServe book calls → ServesBatch book calls after old new → IsHeld new.pass (IsReleaseDue workers after)
-served_release old new workers calls book after trapped (found, hold) may s = (
-  ap (λ (p : PassView). is_trapped p.call) s.pass ∙ trapped,
-  subst (Holds (IsReleaseDue workers after)) (sym (ap (λ (p : PassView). p.hold) s.pass ∙ ap (in_hold (after_service s.batch)) hold)) (record {
-    looked = refl;
-    book = s.grown;
-    done = inr (book, s.batch, record { published = record { published = refl; book = refl; may = may; service = s.service }; answered = refl });
-  }),
-)
+pub served_release : (old new : MeSeen) (workers : ℕ) (calls : List Call) (book after : List (List Entry)) → HasTaken workers calls book old.pass.hold
+    → MayServe book calls → ServesBatch book calls after old new → (h : HoldView) × (new.pass.hold ≡ Some h) × IsReleaseDue workers h × (after ≡ h.book)
+served_release old new workers calls book after (found, hold) may s =
+    let h = after_service s.batch (taken_hold workers found calls book) in (
+      h,
+      ap (λ (p : PassView). p.hold) s.pass ∙ ap (in_hold (after_service s.batch)) hold,
+      release_due workers h refl (inr (book, s.batch, record { published = record { published = refl; book = refl; may = may; service = s.service }; answered = refl })),
+      s.grown,
+    )
 
 pub served_launched : (old new : MeSeen) (q r : PassView) (workers : ℕ) (calls : List Call) (book after : List (List Entry)) → old.pass.hold ≡ Some (new_hold book) → MayServe book calls
     → HasLooked workers calls old.pass q → ServesBatch book calls after (record old { pass = q }) (record new { pass = r }) → new.pass ≡ releasing r

@@ -5,37 +5,37 @@ use Rattle.seq_objects.specs.declared.call.Call.{Call}
 use Rattle.core_model.specs.declared.event.Event.TheVariants.{Take}
 use Rattle.table_rule.specs.declared.view.HoldView.{HoldView}
 use Rattle.table_rule.specs.Passes.{after_take, after_pass, in_hold, taking, passing}
-use Rattle.worker_crew.specs.Holds.{AreFit, StayFit, IsLooking}
+use Rattle.worker_turns.specs.Holds.{AreFit}
 use Rattle.table_rule.specs.declared.view.PassView.{PassView}
-use Rattle.worker_crew.specs.Passes.{Holds, IsHeld}
 use Rattle.table_rule.proofs.ListLemmas.Last.{if_no}
 use Rattle.worker_turns.specs.Launches.{pending_in, AreFound, look_events}
-use Rattle.worker_turns.specs.Code.Serving.{IsNewHold, after_looks, looked, HasLooked}
+use Rattle.worker_turns.specs.Code.Serving.{Holds, IsNewHold, after_looks, looked, HasLooked}
 
 none_looked : (h : Option HoldView) → Holds IsNewHold h → h ≡ in_hold (after_looks 0 [] []) h
 none_looked None new = absurd new
 none_looked (Some h) new = ap Some (new ∙ ap (after_looks 0 [] []) (sym new))
 
-pub none_yet : (p : PassView) → IsHeld p IsNewHold → HasLooked 0 [] p p
-none_yet p held = (
+pub none_yet : (p : PassView) → Holds IsNewHold p.hold → HasLooked 0 [] p p
+none_yet p new = (
   [],
   record { each = refl; pending = refl },
-  (λ i. record p { hold = none_looked p.hold held.1 i; events = sym (append-nil p.events) i }),
+  (λ i. record p { hold = none_looked p.hold new i; events = sym (append-nil p.events) i }),
 )
 
-fit_at_first : (h : Option HoldView) → Holds IsNewHold h → Holds AreFit h
-fit_at_first None new = absurd new
-fit_at_first (Some h) new = subst AreFit (sym new) (record { below = tt; serve = λ some. absurd (some refl) })
+pub fit_first : (h : Option HoldView) → Holds IsNewHold h → Holds AreFit h
+fit_first None new = absurd new
+fit_first (Some h) new = subst AreFit (sym new) (record { below = tt; serve = λ some. absurd (some refl) })
 
-pub fit_first : (p : PassView) → IsHeld p IsNewHold → Holds AreFit p.hold
-fit_first p held = fit_at_first p.hold held.1
-
-next_in : (u : ℕ) (found : List ℕ) (calls : List Call) (h : Option HoldView) → Holds IsNewHold h → Holds (IsLooking u) (in_hold (after_looks u found calls) h)
+next_in : (u : ℕ) (found : List ℕ) (calls : List Call) (h : Option HoldView) → Holds IsNewHold h
+    → (k : HoldView) × (in_hold (after_looks u found calls) h ≡ Some k) × (u ≡ k.looks)
 next_in u found calls None new = absurd new
-next_in u found calls (Some h) new = record { next = refl; early = ap (λ (k : HoldView). k.published) new }
+next_in u found calls (Some h) new = (after_looks u found calls h, refl, refl)
 
-pub next_look : (p q : PassView) (u : ℕ) (calls : List Call) → IsHeld p IsNewHold → HasLooked u calls p q → IsHeld q (IsLooking u)
-next_look p q u calls held (found, are, is) = subst (λ (r : PassView). IsHeld r (IsLooking u)) (sym is) (held.0, next_in u found calls p.hold held.1)
+-- the next worker to look at
+pub next_look : (p q : PassView) (u : ℕ) (calls : List Call) → Holds IsNewHold p.hold → HasLooked u calls p q → (h : HoldView) × (q.hold ≡ Some h) × (u ≡ h.looks)
+next_look p q u calls new (found, are, is) =
+    let k = next_in u found calls p.hold new in
+    (k.0, ap (λ (r : PassView). r.hold) is ∙ k.1, k.2)
 
 -- one more status
 with_last : (b : Bool) (n m : ℕ) (xs ys : List ℕ) → ys ≡ xs ++ m ∷ [] → (if b then n ∷ ys else ys) ≡ (if b then n ∷ xs else xs) ++ m ∷ []
@@ -102,14 +102,3 @@ pub looked_else : (p q r : PassView) (u : ℕ) (calls more : List Call) (result 
 looked_else p q r u calls more (Ok call) was other now same = absurd (other call refl)
 looked_else p q r u calls more (Err status) was other now same =
     subst (λ (l : List Call). HasLooked (u + 1) l p r) (sym same) (looked_pass p q r u calls status was now.0 now.1)
-
-fit_in : (f : HoldView → HoldView) (h k : Option HoldView) → k ≡ in_hold f h → StayFit h k → Holds AreFit h → Holds AreFit k
-fit_in f None k is stay fit = absurd fit
-fit_in f (Some h) k is stay fit = subst (Holds AreFit) (sym is) (stay h (f h) refl is fit)
-
-pub fit_take : (q r : PassView) (call : Call) → r ≡ taking call q → StayFit q.hold r.hold → Holds AreFit q.hold → Holds AreFit r.hold
-fit_take q r call now stay fit = fit_in (after_take call) q.hold r.hold (ap (λ (p : PassView). p.hold) now) stay fit
-
-pub fit_else : (q r : PassView) (u : ℕ) (result : Result Call ℕ) → ((call : Call) → result ≡ Ok call → ⊥) → IfErr result (λ status. (status ≢ 1) × (r ≡ passing u status q)) → StayFit q.hold r.hold → Holds AreFit q.hold → Holds AreFit r.hold
-fit_else q r u (Ok call) other now stay fit = absurd (other call refl)
-fit_else q r u (Err status) other now stay fit = fit_in (after_pass status) q.hold r.hold (ap (λ (p : PassView). p.hold) now.1) stay fit

@@ -18,7 +18,8 @@ use Rattle.table_rule.specs.declared.slot.OpRecord.{OpRecord}
 use Rattle.table_rule.specs.declared.view.LeftCall.{LeftCall}
 use Rattle.table_rule.specs.declared.view.PassView.{PassView}
 use Rattle.table_rule.specs.Passes.{finding_none, leaving, losing, staying, winning}
-use Rattle.worker_crew.specs.Passes.{is_trapped, IsFront, IsTrapped}
+use Rattle.table_rule.specs.Shows.{IsFront}
+use Rattle.worker_crew.specs.Passes.{is_trapped, IsTrapped}
 use Rattle.worker_crew.specs.Workers.{MeSeen}
 use Rattle.worker_turns.specs.Stops.{unstopped}
 use Rattle.worker_turns.specs.Pieces.{Desk, desk_after, NotRan, IsOwnPiece, IsOtherPiece}

@@ -9,7 +9,7 @@ use Rattle.worker_turns.specs.declared.attempts.PieceAttempt.TheVariants.{Ran, S
 use Rattle.worker_turns.specs.declared.trapped.Trapped.TheVariants.{Left, Piece, Nothing}
 use Rattle.table_rule.specs.declared.view.PassView.{PassView}
 use Rattle.table_rule.specs.Passes.{finding_none}
-use Rattle.worker_crew.specs.Passes.{IsLeft}
+use Rattle.worker_turns.specs.Trapped.{IsLeft}
 use Rattle.worker_crew.specs.Workers.{MeSeen}
 use Rattle.worker_turns.specs.Stops.{unstopped}
 use Rattle.worker_turns.specs.Pieces.{Desk, spot_of, desk_after, NotRan, IsPop, IsOwnPiece, IsOtherPiece}

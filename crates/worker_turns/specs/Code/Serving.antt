@@ -1,14 +1,19 @@
 -- The hold and the pass at each stage of a launch.
-use Rattle.std.specs.Prelude.{ℕ, ◌≡◌, ◌≤◌, true, Option, Some, List, [], ◌∷◌, ◌++◌, length, map}
+use Rattle.std.specs.Prelude.{ℕ, ◌≡◌, ◌≤◌, true, Option, None, Some, List, [], ◌∷◌, ◌++◌, length, map}
 use Rattle.seq_objects.specs.declared.call.Call.{Call}
 use Rattle.core_model.specs.Words.{Entry}
 use Rattle.launch_batch.specs.Calls.{IsServiceOf}
 use Rattle.table_rule.specs.declared.view.HoldView.{HoldView}
 use Rattle.table_rule.specs.Passes.{new_hold, in_hold, without_first}
-use Rattle.worker_crew.specs.Holds.{workers_in, IsPublished}
+use Rattle.worker_turns.specs.Holds.{workers_in, IsPublished}
 use Rattle.table_rule.specs.declared.view.PassView.{PassView}
 use Rattle.worker_crew.specs.Workers.{MeSeen}
 use Rattle.worker_turns.specs.Launches.{ExecutesPieces, ArePlaces, AreFound, look_events, answer_events, serve_events}
+
+-- there is a hold, and it satisfies P
+abbrev pub Holds : (HoldView → Type 0) → Option HoldView → Type 0
+Holds P None = ⊥
+Holds P (Some h) = P h
 
 -- the hold is that just after a win: no look, no call taken, nothing published
 abbrev pub IsNewHold : HoldView → Type 0

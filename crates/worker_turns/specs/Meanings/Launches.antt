@@ -4,7 +4,7 @@ use Rattle.batch_history.specs.Serving.{calls_in}
 use Rattle.launch_batch.specs.Calls.{AreSame, IsServiceOf}
 use Rattle.core_model.specs.Words.{Entry}
 use Rattle.table_rule.specs.declared.view.HoldView.{HoldView}
-use Rattle.worker_crew.specs.Holds.{workers_in}
+use Rattle.worker_turns.specs.Holds.{workers_in}
 use Rattle.worker_turns.specs.Launches.{ArePlaces, AreFound}
 use Rattle.worker_turns.specs.Pieces.{Desk}
 use Rattle.worker_crew.specs.Workers.{MeSeen}

@@ -5,7 +5,7 @@ use Rattle.two_deques.specs.Ends.{HeldEnds}
 use Rattle.worker_crew.specs.Words.{Receipt}
 use Rattle.table_rule.specs.declared.view.PassView.{PassView}
 use Rattle.table_rule.specs.Passes.{finding_none}
-use Rattle.worker_crew.specs.Passes.{IsLeft}
+use Rattle.worker_turns.specs.Trapped.{IsLeft}
 use Rattle.worker_crew.specs.Workers.{MeSeen}
 use Rattle.worker_turns.specs.Meanings.Gains.{GrewBy, on_board, EmptyPopsRose, FruitlessRose, Gained, next_victim}
 

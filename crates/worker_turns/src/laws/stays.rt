@@ -6,7 +6,8 @@ ghost use Rattle.worker_turns.specs.declared.trapped.Trapped.{Trapped as Trapped
 ghost use Rattle.worker_turns.specs.declared.trapped.Trapped.TheVariants as TrappedAnswers;
 ghost use Rattle.worker_turns.specs.declared.free.Did.{Did as FreeAnswer};
 ghost use Rattle.worker_turns.specs.declared.free.Did.TheVariants as FreeAnswers;
-ghost use Rattle.worker_crew.specs.Passes.{is_trapped, IsFront, IsTrapped};
+ghost use Rattle.table_rule.specs.Shows.{IsFront};
+ghost use Rattle.worker_crew.specs.Passes.{is_trapped, IsTrapped};
 ghost use Rattle.worker_crew.specs.Workers.{MeSeen};
 ghost use Rattle.worker_turns.specs.Trapped.{IsTrappedTurn};
 ghost use Rattle.worker_turns.specs.Free.{IsFreeTurn, Helps};

@@ -7,6 +7,7 @@ ghost use Rattle.launch_batch.specs.declared.piece.PieceIn.{PieceIn as Input};
 ghost use Rattle.launch_batch.specs.Pieces.{place_of, Meets};
 ghost use Rattle.piece_board.specs.Boards.{desk_view};
 ghost use Rattle.two_deques.specs.Hands.{held};
+ghost use Rattle.core_table.specs.Passes.{IsPassOf, pass_view};
 ghost use Rattle.worker_crew.specs.declared.crew.Stop.TheVariants.{Memory};
 ghost use Rattle.worker_crew.specs.Workers.{IsMeOf};
 ghost use Rattle.worker_turns.specs.Pieces.{DrainsRow, after_posts, with_place};
@@ -22,22 +23,22 @@ use launch_batch::{PieceIn, PieceOut};
 use std::alloc::Global;
 use std::sync::Wait;
 use two_deques::Spot;
-use worker_crew::{Crew, Me, Stop, Table};
+use worker_crew::{Crew, Me, Stop};
 
 /// Posts each piece at its place in the worker's own row, and pushes its spot on the worker's own deque of pieces.
 /// Returns the places.
-fn post_all<T: Table, G: Pause>(
+fn post_all<G: Pause>(
     alloc: Global,
-    crew: &Crew<T, G>,
-    me: &mut Me<T::Pass>,
+    crew: &Crew<G>,
+    me: &mut Me,
     ins: Vec<PieceIn>,
 ) -> Result<Vec<u32>, Stop>
-    requires me { IsMeOf (T.gave crew.now.table) T.seen crew.now.decks crew.now.board me.old }
+    requires me { IsMeOf crew.now.table crew.now.decks crew.now.board me.old }
     requires free { (desk_view me.old.desk).posted ≡ [] }
     requires below { AllByRecursion (λ input. place_of input < 56) ins.items }
     requires ascend { StrictlyAscends (map place_of ins.items) }
     ensures me { IfOk result (λ _.
-        IsMeOf (T.gave crew.now.table) T.seen crew.now.decks crew.now.board me.new) }
+        IsMeOf crew.now.table crew.now.decks crew.now.board me.new) }
     ensures places { IfOk result (λ places. places.items ≡ map place_of ins.items) }
     ensures desk { IfOk result (λ _.
         desk_view me.new.desk ≡ after_posts ins.items (desk_view me.old.desk)) }
@@ -65,14 +66,10 @@ fn post_all<T: Table, G: Pause>(
 }
 
 /// Runs pieces of the worker's own deque until a pop gives none, or after 64 pops. A batch has at most 56 pieces.
-fn run_own<T: Table, G: Pause>(
-    alloc: Global,
-    crew: &Crew<T, G>,
-    me: &mut Me<T::Pass>,
-) -> Result<(), Stop>
-    requires me { IsMeOf (T.gave crew.now.table) T.seen crew.now.decks crew.now.board me.old }
+fn run_own<G: Pause>(alloc: Global, crew: &Crew<G>, me: &mut Me) -> Result<(), Stop>
+    requires me { IsMeOf crew.now.table crew.now.decks crew.now.board me.old }
     ensures me { IfOk result (λ _.
-        IsMeOf (T.gave crew.now.table) T.seen crew.now.decks crew.now.board me.new) }
+        IsMeOf crew.now.table crew.now.decks crew.now.board me.new) }
     ensures desk { IfOk result (λ _. DrainsRow 0 (desk_view me.old.desk) (desk_view me.new.desk)) }
     ensures core { IfOk result (λ _. (held me.new.hand).core ≡ (held me.old.hand).core) }
     ensures pass { me.new.pass ≡ me.old.pass }
@@ -88,26 +85,26 @@ fn run_own<T: Table, G: Pause>(
 
 /// Waits for the result at `place`, the first place of the worker's own row that is not free. After each look that
 /// finds no result, the worker looks at the stop word and tries to steal one piece.
-fn collect_one<T: Table, G: Pause, R: Wait>(
+fn collect_one<G: Pause, R: Wait>(
     rt: &R,
     alloc: Global,
-    crew: &Crew<T, G>,
-    me: &mut Me<T::Pass>,
+    crew: &Crew<G>,
+    me: &mut Me,
     place: u32,
 ) -> Result<PieceOut, Stop>
-    requires me { IsMeOf (T.gave crew.now.table) T.seen crew.now.decks crew.now.board me.old }
+    requires me { IsMeOf crew.now.table crew.now.decks crew.now.board me.old }
     requires place { place < 56 }
     requires first { (input : Input) × (rest : List (ℕ × Input))
         × ((desk_view me.old.desk).posted ≡ (place, input) ∷ rest) }
-    ensures pass { T.gave crew.now.table me.new.pass }
+    ensures pass { IsPassOf crew.now.table me.new.pass }
     ensures me { IfOk result (λ _.
-        IsMeOf (T.gave crew.now.table) T.seen crew.now.decks crew.now.board me.new) }
+        IsMeOf crew.now.table crew.now.decks crew.now.board me.new) }
     ensures meets { IfOk result (λ out. (input : Input) (rest : List (ℕ × Input))
         → (desk_view me.old.desk).posted ≡ (place, input) ∷ rest → Meets input out) }
     ensures desk { IfOk result (λ _. DrainsRow 1 (desk_view me.old.desk) (desk_view me.new.desk)) }
     ensures core { IfOk result (λ _. (held me.new.hand).core ≡ (held me.old.hand).core) }
-    ensures seen { IfOk result (λ _. HasOnlyLooked (T.seen me.old.pass) (T.seen me.new.pass)) }
-    ensures stopped { IfErr result (λ stop. IsStop stop (T.seen me.old.pass) (T.seen me.new.pass)) }
+    ensures seen { IfOk result (λ _. HasOnlyLooked (pass_view me.old.pass) (pass_view me.new.pass)) }
+    ensures stopped { IfErr result (λ stop. IsStop stop (pass_view me.old.pass) (pass_view me.new.pass)) }
 {
     let backoff = Backoff::new();
     for _ in rt.forever() {
@@ -124,27 +121,27 @@ fn collect_one<T: Table, G: Pause, R: Wait>(
 }
 
 /// Collects the results of the worker's own row, in the order of `places`.
-fn collect_all<T: Table, G: Pause, R: Wait>(
+fn collect_all<G: Pause, R: Wait>(
     rt: &R,
     alloc: Global,
-    crew: &Crew<T, G>,
-    me: &mut Me<T::Pass>,
+    crew: &Crew<G>,
+    me: &mut Me,
     places: &[u32],
 ) -> Result<Vec<PieceOut>, Stop>
-    requires me { IsMeOf (T.gave crew.now.table) T.seen crew.now.decks crew.now.board me.old }
+    requires me { IsMeOf crew.now.table crew.now.decks crew.now.board me.old }
     requires posted { (ins : List Input) × (places.now ≡ map place_of ins)
         × ((desk_view me.old.desk).posted ≡ map with_place ins)
         × AllByRecursion (λ input. place_of input < 56) ins }
-    ensures pass { T.gave crew.now.table me.new.pass }
+    ensures pass { IsPassOf crew.now.table me.new.pass }
     ensures me { IfOk result (λ _.
-        IsMeOf (T.gave crew.now.table) T.seen crew.now.decks crew.now.board me.new) }
+        IsMeOf crew.now.table crew.now.decks crew.now.board me.new) }
     ensures meet { IfOk result (λ outs. (ins : List Input)
         → (desk_view me.old.desk).posted ≡ map with_place ins → AllMeet Meets ins outs.items) }
     ensures desk { IfOk result (λ _.
         DrainsRow (length places.now) (desk_view me.old.desk) (desk_view me.new.desk)) }
     ensures core { IfOk result (λ _. (held me.new.hand).core ≡ (held me.old.hand).core) }
-    ensures seen { IfOk result (λ _. HasOnlyLooked (T.seen me.old.pass) (T.seen me.new.pass)) }
-    ensures stopped { IfErr result (λ stop. IsStop stop (T.seen me.old.pass) (T.seen me.new.pass)) }
+    ensures seen { IfOk result (λ _. HasOnlyLooked (pass_view me.old.pass) (pass_view me.new.pass)) }
+    ensures stopped { IfErr result (λ stop. IsStop stop (pass_view me.old.pass) (pass_view me.new.pass)) }
 {
     let mut outs = Vec::new(alloc);
     for k in 0..places.len() {
@@ -155,26 +152,26 @@ fn collect_all<T: Table, G: Pause, R: Wait>(
 }
 
 /// Hands out the pieces of a batch, helps to run them, and collects their results.
-pub(crate) fn serve_pieces<T: Table, G: Pause, R: Wait>(
+pub(crate) fn serve_pieces<G: Pause, R: Wait>(
     rt: &R,
     alloc: Global,
-    crew: &Crew<T, G>,
-    me: &mut Me<T::Pass>,
+    crew: &Crew<G>,
+    me: &mut Me,
     ins: Vec<PieceIn>,
 ) -> Result<Vec<PieceOut>, Stop>
-    requires me { IsMeOf (T.gave crew.now.table) T.seen crew.now.decks crew.now.board me.old }
+    requires me { IsMeOf crew.now.table crew.now.decks crew.now.board me.old }
     requires free { (desk_view me.old.desk).posted ≡ [] }
     requires below { AllByRecursion (λ input. place_of input < 56) ins.items }
     requires ascend { StrictlyAscends (map place_of ins.items) }
-    ensures pass { T.gave crew.now.table me.new.pass }
+    ensures pass { IsPassOf crew.now.table me.new.pass }
     ensures me { IfOk result (λ _.
-        IsMeOf (T.gave crew.now.table) T.seen crew.now.decks crew.now.board me.new) }
+        IsMeOf crew.now.table crew.now.decks crew.now.board me.new) }
     ensures meet { IfOk result (λ outs. AllMeet Meets ins.items outs.items) }
     ensures desk { IfOk result (λ _.
         ExecutesPieces (map place_of ins.items) (desk_view me.old.desk) (desk_view me.new.desk)) }
     ensures core { IfOk result (λ _. (held me.new.hand).core ≡ (held me.old.hand).core) }
-    ensures seen { IfOk result (λ _. HasOnlyLooked (T.seen me.old.pass) (T.seen me.new.pass)) }
-    ensures stopped { IfErr result (λ stop. IsStop stop (T.seen me.old.pass) (T.seen me.new.pass)) }
+    ensures seen { IfOk result (λ _. HasOnlyLooked (pass_view me.old.pass) (pass_view me.new.pass)) }
+    ensures stopped { IfErr result (λ stop. IsStop stop (pass_view me.old.pass) (pass_view me.new.pass)) }
 {
     let places = post_all(alloc, crew, me, ins)?;
     run_own(alloc, crew, me)?;

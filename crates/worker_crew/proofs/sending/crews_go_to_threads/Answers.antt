@@ -3,12 +3,11 @@ use denote.Param.Send.{sendable}
 use denote.Param.SendFields.{declared_sync}
 use Rattle.std.proofs.Crossing.{crosses}
 use Rattle.worker_crew.specs.contracts.crew.Crew as crew
-use Rattle.core_table.specs.contracts.table.CoreTable as table
 use Rattle.worker_crew.specs.contracts.sending.crews_go_to_threads as here
 use Rattle.worker_crew.proofs.sending.crews_go_to_threads.Goals as goal
 
 pub returns : goal.returns
 returns g c l =
     let pause = c.type_bounds.sync-G in
-    declared_sync (crew.the_type l table.the_row (here.G-row g.row.G))
+    declared_sync (crew.the_type l (here.G-row g.row.G))
     (c.tables_go_to_threads.ensures.shared, (c.decks_go_to_threads.ensures.shared, (c.boards_go_to_threads.ensures.shared, (search sendable depth 20, (search (sendable, crosses) depth 20, tt)))))

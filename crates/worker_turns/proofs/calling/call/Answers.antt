@@ -1,4 +1,5 @@
 use Rattle.std.proofs.Common.{◌∙◌, ap, arith}
+use Rattle.core_table.specs.Passes.{pass_view}
 use Rattle.worker_crew.specs.Passes.{is_trapped}
 use Rattle.worker_turns.specs.Trapped.{IsCallSame}
 use Rattle.worker_turns.proofs.CarryLemmas.Steps.{front_then, helps_then, jobs_then, stays_same}
@@ -8,8 +9,8 @@ pub loop-preserved : goal.loop-preserved
 loop-preserved g c =
     let i = c.loop.invariant in
     let turn = c.in_ok-turn.ensures in
-    let old = g.T.Table.seen c.loop.me.pass in
-    let new = g.T.Table.seen c.trapped_turn.new.me.pass in
+    let old = pass_view c.loop.me.pass in
+    let new = pass_view c.trapped_turn.new.me.pass in
     let same : IsCallSame old new = stays_same c.in_ok-turn.turn old new c.in_default.not-Left turn.stays in record {
       me = turn.me;
       trapped = (ap is_trapped same.call ∙ i.trapped.0, same.hold);

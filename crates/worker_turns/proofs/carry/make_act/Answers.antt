@@ -1,61 +1,63 @@
 use Rattle.std.proofs.Common.{ℕ, Some, [], ◌∷◌, ◌∙◌, refl, sym, ap}
 use Rattle.table_rule.specs.declared.view.PassView.{PassView}
 use Rattle.table_rule.specs.Passes.{opening}
+use Rattle.core_table.specs.Passes.{pass_view}
 use Rattle.worker_crew.specs.Passes.{is_trapped}
 use Rattle.two_deques.specs.Hands.{Held}
+use Rattle.worker_turns.proofs.HoldLemmas.Passes.{own_of}
 use Rattle.worker_turns.proofs.CarryLemmas.Steps.{ok_by, carried_step, carried_open, carried_call, front_called, arrived}
 use Rattle.worker_turns.proofs.carry.make_act.Goals as goal
 
 pub returns-in-Start-clause-carried : goal.returns-in-Start-clause-carried
-returns-in-Start-clause-carried g c = let t = c.tick.ensures.started _ _ (c.requires.due ∙ ap Some c.in-Start.is) in carried_step _ _ _ _ _ (_ ∷ []) t.1 refl refl
+returns-in-Start-clause-carried g c = let t = c.tick.ensures.started _ _ (c.requires.due ∙ ap Some c.in-Start.is) in carried_step _ _ _ _ _ (_ ∷ []) (own_of _ _ t) refl refl
 
 pub returns-in-End-clause-carried : goal.returns-in-End-clause-carried
-returns-in-End-clause-carried g c = let t = c.tick-in-End.ensures.ended _ _ (c.requires.due ∙ ap Some c.in-End.is) in carried_step _ _ _ _ _ (_ ∷ []) t.1 refl refl
+returns-in-End-clause-carried g c = let t = c.tick-in-End.ensures.ended _ _ (c.requires.due ∙ ap Some c.in-End.is) in carried_step _ _ _ _ _ (_ ∷ []) (own_of _ _ t) refl refl
 
 pub returns-in-Spin-clause-carried : goal.returns-in-Spin-clause-carried
-returns-in-Spin-clause-carried g c = let k = c.keep.ensures.kept in carried_step _ _ _ _ _ _ k.3 refl refl
+returns-in-Spin-clause-carried g c = let k = c.keep.ensures.kept in carried_step _ _ _ _ _ _ (own_of _ _ k.3) refl refl
 
 pub returns-in_ok-call-in-Call-clause-carried : goal.returns-in_ok-call-in-Call-clause-carried
 returns-in_ok-call-in-Call-clause-carried g c =
     let e = c.in_ok-call-in-Call.ensures in
-    carried_call _ _ e.job e.longer e.looked (front_called _ (g.T.Table.seen c.args.me.now.pass) (g.T.Table.seen c.call.new.me.pass) e.events) e.core e.helps
+    carried_call _ _ e.job e.longer e.looked (front_called _ (pass_view c.args.me.now.pass) (pass_view c.call.new.me.pass) e.events) e.core e.helps
 
 pub returns-in-Got-clause-carried : goal.returns-in-Got-clause-carried
-returns-in-Got-clause-carried g c = let k = c.keep-in-Got.ensures.kept in carried_step _ _ _ _ _ _ k.3 refl refl
+returns-in-Got-clause-carried g c = let k = c.keep-in-Got.ensures.kept in carried_step _ _ _ _ _ _ (own_of _ _ k.3) refl refl
 
 pub returns-in-Finish-clause-me : goal.returns-in-Finish-clause-me
 returns-in-Finish-clause-me g c =
-    let is = c.finish.ensures.finished _ _ (c.requires.due ∙ ap Some c.in-Finish.is) in
+    let is = own_of _ _ (c.finish.ensures.finished _ _ (c.requires.due ∙ ap Some c.in-Finish.is)) in
     record { pass = c.finish.ensures.pass; hand = c.requires.me.hand; desk = c.requires.me.desk; worker = ap (λ (p : PassView). p.worker) is ∙ c.requires.me.worker; row = c.requires.me.row; tries = c.requires.me.tries; workers = c.requires.me.workers }
 
 pub returns-in-Finish-clause-free_pass : goal.returns-in-Finish-clause-free_pass
 returns-in-Finish-clause-free_pass g c =
-    let is = c.finish.ensures.finished _ _ (c.requires.due ∙ ap Some c.in-Finish.is) in
+    let is = own_of _ _ (c.finish.ensures.finished _ _ (c.requires.due ∙ ap Some c.in-Finish.is)) in
     (ap (λ (p : PassView). is_trapped p.call) is ∙ c.requires.free_pass.0, ap (λ (p : PassView). p.hold) is ∙ c.requires.free_pass.1)
 
 pub returns-in-Finish-clause-carried : goal.returns-in-Finish-clause-carried
-returns-in-Finish-clause-carried g c = carried_step _ _ _ _ _ (_ ∷ []) (c.finish.ensures.finished _ _ (c.requires.due ∙ ap Some c.in-Finish.is)) refl refl
+returns-in-Finish-clause-carried g c = carried_step _ _ _ _ _ (_ ∷ []) (own_of _ _ (c.finish.ensures.finished _ _ (c.requires.due ∙ ap Some c.in-Finish.is))) refl refl
 
 pub returns-in-Arrive-clause-me : goal.returns-in-Arrive-clause-me
 returns-in-Arrive-clause-me g c =
     let due = c.requires.due ∙ ap Some c.in-Arrive.is in
-    let is = (arrived c.arrive.result (g.T.Table.seen c.args.me.now.pass) (g.T.Table.seen c.arrive.new.pass) _ _ _ _ (λ e. c.arrive.ensures.first e _ _ _ _ due) (λ e. c.arrive.ensures.second e _ _ _ _ due)).2 in
+    let is = (arrived c.arrive.result (pass_view c.args.me.now.pass) (pass_view c.arrive.new.pass) _ _ _ _ (λ e. own_of _ _ (c.arrive.ensures.first e _ _ _ _ due)) (λ e. own_of _ _ (c.arrive.ensures.second e _ _ _ _ due))).2 in
     record { pass = c.arrive.ensures.pass; hand = c.requires.me.hand; desk = c.requires.me.desk; worker = ap (λ (p : PassView). p.worker) is ∙ c.requires.me.worker; row = c.requires.me.row; tries = c.requires.me.tries; workers = c.requires.me.workers }
 
 pub returns-in-Arrive-clause-free_pass : goal.returns-in-Arrive-clause-free_pass
 returns-in-Arrive-clause-free_pass g c =
     let due = c.requires.due ∙ ap Some c.in-Arrive.is in
-    let is = (arrived c.arrive.result (g.T.Table.seen c.args.me.now.pass) (g.T.Table.seen c.arrive.new.pass) _ _ _ _ (λ e. c.arrive.ensures.first e _ _ _ _ due) (λ e. c.arrive.ensures.second e _ _ _ _ due)).2 in
+    let is = (arrived c.arrive.result (pass_view c.args.me.now.pass) (pass_view c.arrive.new.pass) _ _ _ _ (λ e. own_of _ _ (c.arrive.ensures.first e _ _ _ _ due)) (λ e. own_of _ _ (c.arrive.ensures.second e _ _ _ _ due))).2 in
     (ap (λ (p : PassView). is_trapped p.call) is ∙ c.requires.free_pass.0, ap (λ (p : PassView). p.hold) is ∙ c.requires.free_pass.1)
 
 pub returns-in-Arrive-clause-carried : goal.returns-in-Arrive-clause-carried
 returns-in-Arrive-clause-carried g c =
     let due = c.requires.due ∙ ap Some c.in-Arrive.is in
-    carried_step _ _ _ _ _ (_ ∷ []) (arrived c.arrive.result (g.T.Table.seen c.args.me.now.pass) (g.T.Table.seen c.arrive.new.pass) _ _ _ _ (λ e. c.arrive.ensures.first e _ _ _ _ due) (λ e. c.arrive.ensures.second e _ _ _ _ due)).2 refl refl
+    carried_step _ _ _ _ _ (_ ∷ []) (arrived c.arrive.result (pass_view c.args.me.now.pass) (pass_view c.arrive.new.pass) _ _ _ _ (λ e. own_of _ _ (c.arrive.ensures.first e _ _ _ _ due)) (λ e. own_of _ _ (c.arrive.ensures.second e _ _ _ _ due))).2 refl refl
 
 pub returns-else-is_err-clause-me : goal.returns-else-is_err-clause-me
 returns-else-is_err-clause-me g c =
-    let is = (c.open_node-node.ensures.opened _ _ _ (c.requires.due ∙ ap Some c.in-Open.is)).1 in
+    let is = own_of _ _ (c.open_node-node.ensures.opened _ _ _ (c.requires.due ∙ ap Some c.in-Open.is)).1 in
     let pushed = ok_by c.push_core.result _ c.push_core.ensures.ok (sym c.is_err.ensures.value ∙ c.if-is_err.false) in
     let worker = sym (ap (λ (h : Held). h.worker) pushed) in record {
       pass = c.open_node-node.ensures.pass;
@@ -69,12 +71,12 @@ returns-else-is_err-clause-me g c =
 
 pub returns-else-is_err-clause-free_pass : goal.returns-else-is_err-clause-free_pass
 returns-else-is_err-clause-free_pass g c =
-    let is = (c.open_node-node.ensures.opened _ _ _ (c.requires.due ∙ ap Some c.in-Open.is)).1 in
+    let is = own_of _ _ (c.open_node-node.ensures.opened _ _ _ (c.requires.due ∙ ap Some c.in-Open.is)).1 in
     (ap (λ (p : PassView). is_trapped p.call) is ∙ c.requires.free_pass.0, ap (λ (p : PassView). p.hold) is ∙ c.requires.free_pass.1)
 
 pub returns-else-is_err-clause-carried : goal.returns-else-is_err-clause-carried
 returns-else-is_err-clause-carried g c =
     let o = c.open_node-node.ensures.opened _ _ _ (c.requires.due ∙ ap Some c.in-Open.is) in
     let pushed = ok_by c.push_core.result _ c.push_core.ensures.ok (sym c.is_err.ensures.value ∙ c.if-is_err.false) in
-    carried_open _ _ c.open_node-node.result c.in-Open.event c.in-Open.task (o.1 ∙ ap (λ (n : ℕ). opening n c.in-Open.event c.in-Open.task (g.T.Table.seen c.args.me.now.pass)) (sym o.0))
+    carried_open _ _ c.open_node-node.result c.in-Open.event c.in-Open.task (own_of _ _ o.1 ∙ ap (λ (n : ℕ). opening n c.in-Open.event c.in-Open.task (pass_view c.args.me.now.pass)) (sym o.0))
     (ap (λ (h : Held). h.core) pushed) refl

@@ -1,23 +1,31 @@
 use Rattle.std.proofs.Common.{refl, arith}
 use Rattle.std.proofs.lemmas.Option.{slice_get-get_or}
-use Rattle.worker_turns.proofs.LaunchLemmas.Answering.{answer_due, answered_more, entry_at_itself}
+use Rattle.core_table.specs.Passes.{pass_view}
+use Rattle.worker_turns.proofs.HoldLemmas.Passes.{own_of}
+use Rattle.worker_turns.proofs.LaunchLemmas.Answering.{answer_due, answer_low, answered_more, entry_at_itself}
 use Rattle.worker_turns.proofs.LaunchLemmas.Batches.{few_answers}
 use Rattle.worker_turns.proofs.launching.answer_all.Goals as goal
 
-pub answer-requires-clause-held : goal.answer-requires-clause-held
-answer-requires-clause-held g c =
-    answer_due (g.T.Table.seen c.args.pass.now) _ c.args.number c.loop-place.place c.args.batch.now _ _
+pub answer-requires-clause-low : goal.answer-requires-clause-low
+answer-requires-clause-low c =
+    answer_low c.args.table.now c.loop-place.pass _ _ c.loop-place.invariant.pass
+    (answer_due (pass_view c.args.pass.now) _ c.args.number c.loop-place.place c.args.batch.now _ _
+    (slice_get-get_or c.args.batch.now c.loop-place.place _ c.loop-place-test.true) refl c.requires.published c.loop-place.invariant.seen)
+
+pub answer-requires-clause-due : goal.answer-requires-clause-due
+answer-requires-clause-due c =
+    answer_due (pass_view c.args.pass.now) _ c.args.number c.loop-place.place c.args.batch.now _ _
     (slice_get-get_or c.args.batch.now c.loop-place.place _ c.loop-place-test.true) refl c.requires.published c.loop-place.invariant.seen
 
 pub loop-place-preserved : goal.loop-place-preserved
-loop-place-preserved g c = record {
+loop-place-preserved c = record {
   pass = c.answer.ensures.pass;
-  seen = answered_more (g.T.Table.seen c.args.pass.now) _ _ c.args.number c.loop-place.place c.args.batch.now _ _ c.loop-place-test.true
-      (entry_at_itself c.args.batch.now c.loop-place.place _ c.loop-place-test.true) refl c.loop-place.invariant.seen c.answer.ensures.answered;
+  seen = answered_more (pass_view c.args.pass.now) _ _ c.args.number c.loop-place.place c.args.batch.now _ _ c.loop-place-test.true
+      (entry_at_itself c.args.batch.now c.loop-place.place _ c.loop-place-test.true) refl c.loop-place.invariant.seen (own_of _ _ c.answer.ensures.answered);
   inside = omega (arith, c.loop-place-test.true);
 }
 
 pub overflow_cast-receipt : goal.overflow_cast-receipt
-overflow_cast-receipt g c =
-    let few = few_answers (g.T.Table.seen c.args.pass.now) c.args.number c.args.batch.now c.requires.published in
+overflow_cast-receipt c =
+    let few = few_answers (pass_view c.args.pass.now) c.args.number c.args.batch.now c.requires.published in
     omega (arith, few, c.loop-place-test.true)

@@ -3,6 +3,8 @@ use Rattle.core_model.specs.Words.{Entry}
 use Rattle.seq_objects.specs.Pieces.{BatchContext}
 use Rattle.launch_batch.specs.declared.piece.PieceIn.{PieceIn}
 use Rattle.launch_batch.specs.Pieces.{place_of}
+use Rattle.core_table.specs.Passes.{pass_view}
+use Rattle.worker_turns.proofs.HoldLemmas.Passes.{own_of}
 use Rattle.worker_turns.proofs.LaunchLemmas.Batches.{few_before, publishable, answerable, pass_served, served_looks, last_at}
 use Rattle.worker_turns.proofs.launching.serve_batch.Goals as goal
 
@@ -13,10 +15,10 @@ overflow_cast-number g c =
     let long = ap (λ (l : List (List Entry)). length l) book in
     omega (arith, few, long)
 
-pub publish-requires-clause-held : goal.publish-requires-clause-held
-publish-requires-clause-held g c =
+pub publish-requires-clause-due : goal.publish-requires-clause-due
+publish-requires-clause-due g c =
     let o : BatchContext (List (List Entry)) PieceIn = record { before = c.args.shop; calls = c.args.calls.items; ins = c.in_ok-opened.ins.items } in
-    publishable (g.T.Table.seen c.args.me.now.pass) _ _ c.args.calls.items c.args.shop c.in_ok-shop.batch c.requires.trapped c.requires.hold c.requires.may
+    publishable (pass_view c.args.me.now.pass) _ _ c.args.calls.items c.args.shop c.in_ok-shop.batch c.requires.hold c.requires.may
     (c.in_ok-shop.ensures.batch o c.in_ok-opened.ensures.context c.in_ok-outs.ensures.meet) c.in_ok-outs.ensures.seen
 
 pub bounds-batches-number : goal.bounds-batches-number
@@ -35,8 +37,8 @@ answer_all-requires-clause-published g c =
     let book : c.batches-number.result.now ≡ c.args.shop = search rules in
     let grown = c.in_ok-shop.ensures.history o c.in_ok-opened.ensures.context c.in_ok-outs.ensures.meet in
     let all : c.entries-entries.result.now ≡ c.in_ok-shop.batch = search (rules, last_at, book, grown) in
-    answerable (g.T.Table.seen c.args.me.now.pass) _ _ _ _ c.args.calls.items c.args.shop c.in_ok-shop.batch _ c.requires.trapped c.requires.hold c.requires.may
-    (c.in_ok-shop.ensures.batch o c.in_ok-opened.ensures.context c.in_ok-outs.ensures.meet) c.in_ok-outs.ensures.seen c.publish.ensures.published
+    answerable (pass_view c.args.me.now.pass) _ _ _ _ c.args.calls.items c.args.shop c.in_ok-shop.batch _ c.requires.hold c.requires.may
+    (c.in_ok-shop.ensures.batch o c.in_ok-opened.ensures.context c.in_ok-outs.ensures.meet) c.in_ok-outs.ensures.seen (own_of _ _ c.publish.ensures.published)
     (ap (λ (l : List (List Entry)). length l) book) all
 
 pub returns-clause-batch : goal.returns-clause-batch
@@ -50,8 +52,8 @@ returns-clause-batch g c =
       service = c.in_ok-shop.ensures.batch o c.in_ok-opened.ensures.context c.in_ok-outs.ensures.meet;
       places = c.in_ok-opened.ensures.places;
       grown = grown;
-      pass = pass_served (g.T.Table.seen c.args.me.now.pass) _ _ _ _ c.args.shop c.in_ok-shop.batch _ c.in_ok-outs.ensures.seen c.publish.ensures.published c.answer_all.ensures.answered (ap (λ (l : List (List Entry)). length l) book) all;
-      looks = served_looks (g.T.Table.seen c.args.me.now.pass) _ _ _ _ c.args.shop c.in_ok-shop.batch _ c.in_ok-outs.ensures.seen c.publish.ensures.published c.answer_all.ensures.answered;
+      pass = pass_served (pass_view c.args.me.now.pass) _ _ _ _ c.args.shop c.in_ok-shop.batch _ c.in_ok-outs.ensures.seen (own_of _ _ c.publish.ensures.published) c.answer_all.ensures.answered (ap (λ (l : List (List Entry)). length l) book) all;
+      looks = served_looks (pass_view c.args.me.now.pass) _ _ _ _ c.args.shop c.in_ok-shop.batch _ c.in_ok-outs.ensures.seen (own_of _ _ c.publish.ensures.published) c.answer_all.ensures.answered;
       desk = c.in_ok-outs.ensures.desk;
       core = c.in_ok-outs.ensures.core;
     }

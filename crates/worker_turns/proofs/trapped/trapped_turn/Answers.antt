@@ -1,7 +1,8 @@
 use Rattle.std.proofs.Common.{rules, ◌≡◌, ap, ◌∙◌, subst}
 use Rattle.table_rule.specs.declared.view.PassView.{PassView}
 use Rattle.table_rule.specs.Passes.{losing, staying, winning}
-use Rattle.worker_crew.specs.Passes.{IsFront}
+use Rattle.core_table.specs.Passes.{job_in, pass_view}
+use Rattle.table_rule.specs.Shows.{IsFront}
 use Rattle.worker_crew.specs.Workers.{MeSeen, me_seen}
 use Rattle.worker_turns.specs.Pieces.{IsOwnPiece, IsOtherPiece}
 use Rattle.worker_turns.specs.declared.trapped.Trapped.TheVariants.{Piece, Launched, Nothing}
@@ -11,23 +12,24 @@ use Rattle.worker_turns.proofs.MeaningLemmas.Stays.{call_after, trapped_helps}
 use Rattle.worker_turns.proofs.MeaningLemmas.Events.{trapped_looked}
 use Rattle.worker_turns.proofs.PieceLemmas.Working.{own_works, other_works}
 use Rattle.worker_turns.proofs.CarryLemmas.Steps.{helps_then, helps_works}
+use Rattle.worker_turns.proofs.HoldLemmas.Passes.{own_of}
 use Rattle.worker_turns.proofs.trapped.trapped_turn.Goals as goal
 
 pub returns : goal.returns
 returns g c =
-    let old = me_seen g.T.Table.seen c.args.me.now in
-    let tried = me_seen g.T.Table.seen c.pop_own_piece.new.me in
-    let own = subst (λ (p : PassView). IsOwnPiece c.in_ok-own.own (record old { pass = p }) tried) (c.stopped.ensures.unset c.if-stopped.false) c.in_ok-own.ensures.path in
-    let refused : g.T.Table.seen c.win.new.pass ≡ losing (staying (g.T.Table.seen c.pop_own_piece.new.me.pass)) = search rules in
-    let other = subst (λ (p : PassView). IsOtherPiece c.in_ok-other.other (record tried { pass = p }) (me_seen g.T.Table.seen c.steal_other_piece.new.me)) refused c.in_ok-other.ensures.path in
-    let path : IsTrappedTurn (g.T.Table.workers c.args.crew.now.table) Nothing old (me_seen g.T.Table.seen c.steal_other_piece.new.me) =
+    let old = me_seen c.args.me.now in
+    let tried = me_seen c.pop_own_piece.new.me in
+    let own = subst (λ (p : PassView). IsOwnPiece c.in_ok-own.own (record old { pass = p }) tried) (own_of _ _ (c.stopped.ensures.unset c.if-stopped.false).2) c.in_ok-own.ensures.path in
+    let refused : pass_view c.win.new.pass ≡ losing (staying (pass_view c.pop_own_piece.new.me.pass)) = search rules in
+    let other = subst (λ (p : PassView). IsOtherPiece c.in_ok-other.other (record tried { pass = p }) (me_seen c.steal_other_piece.new.me)) refused c.in_ok-other.ensures.path in
+    let path : IsTrappedTurn (job_in c.args.crew.now.table).workers Nothing old (me_seen c.steal_other_piece.new.me) =
     (c.in_ok-own.own, c.in_ok-other.other, tried, search rules, search rules, own, other) in record {
       pass = search rules;
       me = c.in_ok-other.ensures.me;
       path = path;
       own = tt;
-      looked = trapped_looked (g.T.Table.workers c.args.crew.now.table) Nothing old (me_seen g.T.Table.seen c.steal_other_piece.new.me) path;
-      stays = (call_after (g.T.Table.workers c.args.crew.now.table) Nothing old (me_seen g.T.Table.seen c.steal_other_piece.new.me) c.requires.trapped path).same;
+      looked = trapped_looked (job_in c.args.crew.now.table).workers Nothing old (me_seen c.steal_other_piece.new.me) path;
+      stays = (call_after (job_in c.args.crew.now.table).workers Nothing old (me_seen c.steal_other_piece.new.me) c.requires.trapped path).same;
       free = search rules;
       core = search rules;
       helps = helps_then _ _ _ (helps_works _ _ (own_works _ _ _ own)) (helps_works _ _ (other_works _ _ _ other));
@@ -36,14 +38,14 @@ returns g c =
 
 pub returns-in-Ran-other : goal.returns-in-Ran-other
 returns-in-Ran-other g c =
-    let old = me_seen g.T.Table.seen c.args.me.now in
-    let path : IsTrappedTurn (g.T.Table.workers c.args.crew.now.table) Piece old (me_seen g.T.Table.seen c.steal_other_piece.new.me) = search rules in record {
+    let old = me_seen c.args.me.now in
+    let path : IsTrappedTurn (job_in c.args.crew.now.table).workers Piece old (me_seen c.steal_other_piece.new.me) = search rules in record {
       pass = search rules;
       me = search rules;
       path = path;
       own = tt;
-      looked = trapped_looked (g.T.Table.workers c.args.crew.now.table) Piece old (me_seen g.T.Table.seen c.steal_other_piece.new.me) path;
-      stays = (call_after (g.T.Table.workers c.args.crew.now.table) Piece old (me_seen g.T.Table.seen c.steal_other_piece.new.me) c.requires.trapped path).same;
+      looked = trapped_looked (job_in c.args.crew.now.table).workers Piece old (me_seen c.steal_other_piece.new.me) path;
+      stays = (call_after (job_in c.args.crew.now.table).workers Piece old (me_seen c.steal_other_piece.new.me) c.requires.trapped path).same;
       free = search rules;
       core = search rules;
       helps = search rules;
@@ -52,15 +54,15 @@ returns-in-Ran-other g c =
 
 pub returns-in-Some : goal.returns-in-Some
 returns-in-Some g c =
-    let workers = g.T.Table.workers c.args.crew.now.table in
-    let old = me_seen g.T.Table.seen c.args.me.now in
-    let tried = me_seen g.T.Table.seen c.pop_own_piece.new.me in
-    let new = me_seen g.T.Table.seen c.launch.new.me in
-    let own = subst (λ (p : PassView). IsOwnPiece c.in_ok-own.own (record old { pass = p }) tried) (c.stopped.ensures.unset c.if-stopped.false) c.in_ok-own.ensures.path in
+    let workers = (job_in c.args.crew.now.table).workers in
+    let old = me_seen c.args.me.now in
+    let tried = me_seen c.pop_own_piece.new.me in
+    let new = me_seen c.launch.new.me in
+    let own = subst (λ (p : PassView). IsOwnPiece c.in_ok-own.own (record old { pass = p }) tried) (own_of _ _ (c.stopped.ensures.unset c.if-stopped.false).2) c.in_ok-own.ensures.path in
     let shop = c.in-Some.shop in
-    let stay : g.T.Table.seen c.leave.new.pass ≡ staying tried.pass = search rules in
+    let stay : pass_view c.leave.new.pass ≡ staying tried.pass = search rules in
     let won = c.in-Some.ensures.won in
-    let now : g.T.Table.seen c.win.new.pass ≡ winning shop (staying tried.pass) = won.0 ∙ ap (winning shop) stay in
+    let now : pass_view c.win.new.pass ≡ winning shop (staying tried.pass) = own_of _ _ won.0 ∙ ap (winning shop) stay in
     let launches : Launches workers shop (won_after shop tried) new = subst (λ (p : PassView). Launches workers shop (record tried { pass = p }) new) now c.in_ok-launch.ensures.launched in
     let front : IsFront tried.pass.book_seen shop = subst (λ (p : PassView). IsFront p.book_seen shop) stay won.1 in
     let path : IsTrappedTurn workers Launched old new = (c.in_ok-own.own, tried, shop, search rules, own, launches, front) in record {

@@ -8,5 +8,5 @@ invariant-loop-worker g l = record {
   hands : l.hands.items ≡ drop l.worker l.fn.hands.items;
   desks : l.desks.items ≡ drop l.worker l.fn.desks.items;
   inside : l.worker ≤ l.crew.workers;
-  mes : AreAtStart (g.T.Table.gave l.crew.table) g.T.Table.seen l.crew.decks l.crew.board l.crew.workers l.worker l.mes.items;
+  mes : AreAtStart l.crew.table l.crew.decks l.crew.board l.crew.workers l.worker l.mes.items;
 }

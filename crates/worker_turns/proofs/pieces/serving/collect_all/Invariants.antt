@@ -4,6 +4,7 @@ use Rattle.piece_board.specs.Boards.{desk_view}
 use Rattle.seq_objects.specs.Pieces.{AllMeet}
 use Rattle.launch_batch.specs.declared.piece.PieceIn.{PieceIn}
 use Rattle.launch_batch.specs.Pieces.{Meets}
+use Rattle.core_table.specs.Passes.{pass_view}
 use Rattle.worker_crew.specs.Workers.{IsMeOf}
 use Rattle.worker_turns.specs.Stops.{HasOnlyLooked}
 use Rattle.worker_turns.specs.Pieces.{DrainsRow, with_place}
@@ -11,9 +12,9 @@ use Rattle.worker_turns.proofs.pieces.serving.collect_all.Given as goal
 
 abbrev pub invariant-loop-k : goal.invariant-loop-k
 invariant-loop-k g l = record {
-  me : IsMeOf (g.T.Table.gave l.crew.table) g.T.Table.seen l.crew.decks l.crew.board l.me;
+  me : IsMeOf l.crew.table l.crew.decks l.crew.board l.me;
   core : (held l.me.hand).core ≡ (held l.initial.me.hand).core;
-  seen : HasOnlyLooked (g.T.Table.seen l.initial.me.pass) (g.T.Table.seen l.me.pass);
+  seen : HasOnlyLooked (pass_view l.initial.me.pass) (pass_view l.me.pass);
   desk : DrainsRow l.k (desk_view l.initial.me.desk) (desk_view l.me.desk);
   meet : (ins : List PieceIn) → (desk_view l.initial.me.desk).posted ≡ map with_place ins → AllMeet Meets (take l.k ins) l.outs.items;
   inside : l.k ≤ length l.places;

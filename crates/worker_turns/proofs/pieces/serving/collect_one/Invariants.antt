@@ -1,6 +1,7 @@
 use Rattle.std.proofs.Common.{◌≡◌}
 use Rattle.two_deques.specs.Hands.{held}
 use Rattle.piece_board.specs.Boards.{desk_view}
+use Rattle.core_table.specs.Passes.{pass_view}
 use Rattle.worker_crew.specs.Workers.{IsMeOf}
 use Rattle.worker_turns.specs.Stops.{HasOnlyLooked}
 use Rattle.worker_turns.specs.Pieces.{DrainsRow}
@@ -8,8 +9,8 @@ use Rattle.worker_turns.proofs.pieces.serving.collect_one.Given as goal
 
 abbrev pub invariant-loop : goal.invariant-loop
 invariant-loop g l = record {
-  me : IsMeOf (g.T.Table.gave l.crew.table) g.T.Table.seen l.crew.decks l.crew.board l.me;
+  me : IsMeOf l.crew.table l.crew.decks l.crew.board l.me;
   core : (held l.me.hand).core ≡ (held l.initial.me.hand).core;
-  seen : HasOnlyLooked (g.T.Table.seen l.initial.me.pass) (g.T.Table.seen l.me.pass);
+  seen : HasOnlyLooked (pass_view l.initial.me.pass) (pass_view l.me.pass);
   desk : DrainsRow 0 (desk_view l.initial.me.desk) (desk_view l.me.desk);
 }

@@ -8,7 +8,7 @@ use Rattle.worker_turns.proofs.pieces.serving.post_all.Given as goal
 
 abbrev pub invariant-loop-k : goal.invariant-loop-k
 invariant-loop-k g l = record {
-  me : IsMeOf (g.T.Table.gave l.crew.table) g.T.Table.seen l.crew.decks l.crew.board l.me;
+  me : IsMeOf l.crew.table l.crew.decks l.crew.board l.me;
   core : (held l.me.hand).core ≡ (held l.initial.me.hand).core;
   pass : l.me.pass ≡ l.initial.me.pass;
   left : l.ins.items ≡ drop l.k l.fn.ins.items;

@@ -7,7 +7,7 @@ use Rattle.worker_turns.proofs.pieces.serving.run_own.Given as goal
 
 abbrev pub invariant-loop : goal.invariant-loop
 invariant-loop g l = record {
-  me : IsMeOf (g.T.Table.gave l.crew.table) g.T.Table.seen l.crew.decks l.crew.board l.me;
+  me : IsMeOf l.crew.table l.crew.decks l.crew.board l.me;
   core : (held l.me.hand).core ≡ (held l.initial.me.hand).core;
   pass : l.me.pass ≡ l.initial.me.pass;
   desk : DrainsRow 0 (desk_view l.initial.me.desk) (desk_view l.me.desk);

@@ -1,5 +1,5 @@
--- What the calls of a hold need on the running table, by what the turns know of it.
-use Rattle.std.proofs.Common.{ℕ, zero, suc, ◌≡◌, ◌≢◌, ◌<◌, true, false, Some, List, [], ◌∷◌, length, map, take, arith, refl, sym, ap, subst, inl, inr}
+-- What the calls of a hold need on the running table, by what the turns know of the hold.
+use Rattle.std.proofs.Common.{ℕ, zero, suc, ◌≡◌, ◌≢◌, ◌<◌, ◌⊎◌, true, false, Some, List, [], ◌∷◌, length, map, take, arith, refl, sym, ap, subst, inl, inr}
 use Rattle.std.specs.Prelude.{Contains, slice_get}
 use Rattle.std.specs.List.{AllByRecursion}
 use Rattle.seq_objects.specs.BatchOrder.{ComesFirst}
@@ -14,15 +14,14 @@ use Rattle.core_model.specs.Operations.{place_of, IsReceipt}
 use Rattle.table_rule.specs.declared.slot.OpRecord.{OpRecord}
 use Rattle.table_rule.specs.declared.view.HoldView.{HoldView}
 use Rattle.table_rule.specs.Shows.{took_in, record_in, among}
-use Rattle.table_rule.specs.Batches as batches
-use Rattle.table_rule.specs.Batches.{call_of, ServesTaken}
+use Rattle.table_rule.specs.Batches.{call_of, ServesTaken, IsPublishDue, IsReleaseDue}
 use Rattle.seq_objects.specs.declared.call.Call.{Call}
 use Rattle.core_model.specs.Words.{Entry}
 use Rattle.worker_crew.specs.Words.{Receipt}
-use Rattle.worker_crew.specs.Holds.{workers_in, IsPublishDue, IsAnswerDue, IsReleaseDue}
+use Rattle.worker_turns.specs.Holds.{workers_in, IsPublished, TookNone, ServedAll}
 use Rattle.launch_batch.proofs.ListLemmas.Among.{Among, all_among, each_among, among_same, same_among}
-use Rattle.worker_crew.proofs.SeatLemmas.Taken.{worker_of, record_taken, took_taken, taken_took, among_there, not_among}
-use Rattle.worker_crew.proofs.SeatLemmas.Books.{get_each, receipt_due}
+use Rattle.worker_turns.proofs.HoldLemmas.Taken.{worker_of, record_taken, took_taken, taken_took, among_there, not_among}
+use Rattle.worker_turns.proofs.HoldLemmas.Books.{get_each, receipt_due}
 
 -- the workers and the leaves of entries are those of their calls
 workers_same : (batch : List Entry) → map worker_of (calls_in batch) ≡ workers_in batch
@@ -84,25 +83,26 @@ module _ (h : HoldView) (book : List (List Entry)) (batch : List Entry) (may : M
       let found = took_taken h.taken u took in
       subst (λ n. Among n (workers_in batch)) found.2 (among_workers batch found.0 (among_same h.taken (calls_in batch) service.same found.0 found.1))
 
--- a publish that is due for the turns is due on the table
-pub publish_due : (workers : ℕ) (h : HoldView) (batch : List Entry) → IsPublishDue workers batch h → batches.IsPublishDue workers h batch
-publish_due workers h batch due =
-    let first = some_first h.taken due.may.some in
-    let long = length_same h.taken (calls_in batch) due.service.same in
-    let some = due.may.some in
+-- once all workers were looked at, the batch that serves the calls taken may be published
+pub publish_due : (workers : ℕ) (h : HoldView) (batch : List Entry) → h.looks ≡ workers → h.published ≡ false → MayServe h.book h.taken → IsServiceOf h.book h.taken batch
+    → IsPublishDue workers h batch
+publish_due workers h batch looked early may service =
+    let first = some_first h.taken may.some in
+    let long = length_same h.taken (calls_in batch) service.same in
+    let some = may.some in
     record {
-      looked = due.looked;
+      looked = looked;
       some = (first.0.worker, taken_took h.taken first.0 first.1);
-      early = due.early;
+      early = early;
       serves = record {
         is_batch = record {
           some = not_empty batch (omega (arith, long, some));
-          order = order_same batch due.service.order;
-          workers = batch_workers h h.book batch due.may due.service;
+          order = order_same batch service.order;
+          workers = batch_workers h h.book batch may service;
         };
-        only = entry_taken h h.book batch due.may due.service;
-        each = λ u took. some_number (workers_in batch) u (worker_there h h.book batch due.may due.service u took);
-        replies = due.service.replies;
+        only = entry_taken h h.book batch may service;
+        each = λ u took. some_number (workers_in batch) u (worker_there h h.book batch may service u took);
+        replies = service.replies;
       };
     }
 
@@ -117,34 +117,36 @@ get_mapped f [] place x at = absurd (cc)
 get_mapped f (y ∷ xs) zero x at = let same : y ≡ x = cc in ap (λ a. Some (f a)) same
 get_mapped f (y ∷ xs) (suc place) x at = get_mapped f xs place x at
 
--- what an answer that is due needs on the table
-pub answer_due : (h : HoldView) (u : ℕ) (receipt : Receipt) → IsAnswerDue u receipt h
-    → (call : OpRecord) × (h.published ≡ true) × (record_in h.taken u ≡ Some call) × (among h.answered u ≡ false) × IsReceipt (place_of h.book call.leaf) receipt
-answer_due h u receipt due =
-    let may = due.published.may in
-    let service = due.published.service in
-    let before = apart_before (workers_in due.batch) receipt.place due.entry.worker (batch_workers h due.before due.batch may service)
-    (get_mapped (λ (e : Entry). e.worker) due.batch receipt.place due.entry due.there) in
-    let others = subst (AllByRecursion (λ m. m ≢ due.entry.worker)) (sym due.answered) before in
-    let there = same_among h.taken (calls_in due.batch) service.same (call_in due.entry)
-    (get_each (λ (e : Entry). Among (call_in e) (calls_in due.batch)) due.batch receipt.place due.entry (entry_among due.batch) due.there) in
-    let IsNew = λ (leaf : ℕ). AllByRecursion (λ other. leaf ≢ other) (map (λ (e : Entry). e.leaf) (flat due.before)) in
-    let new = each_among (λ (c : Call). IsNew c.leaf) h.taken (call_in due.entry) (each_unmapped (λ (c : Call). c.leaf) IsNew h.taken may.new) there in (
-      call_of due.entry,
-      due.published.published,
-      subst (λ w. record_in h.taken w ≡ Some (call_of due.entry)) due.worker
-          (get_each (λ (e : Entry). record_in h.taken e.worker ≡ Some (call_of e)) due.batch receipt.place due.entry (entry_taken h due.before due.batch may service) due.there),
-      subst (λ w. among h.answered w ≡ false) due.worker
-          (not_among h.answered due.entry.worker others),
-      subst (λ book. IsReceipt (place_of book due.entry.leaf) receipt) (sym due.published.book)
-          (receipt_due due.before due.batch receipt due.entry new (batch_leaves h due.before due.batch may service) due.number due.there due.reply),
+-- The entry at this place of the published batch may be answered, once the workers of those before it are.
+pub answer_due : (h : HoldView) (before : List (List Entry)) (batch : List Entry) (number place : ℕ) (entry : Entry) → IsPublished before batch h
+    → number ≡ length before → h.answered ≡ take place (workers_in batch) → slice_get batch place ≡ Some entry
+    → (call : OpRecord) × (h.published ≡ true) × (record_in h.taken entry.worker ≡ Some call) × (among h.answered entry.worker ≡ false)
+    × IsReceipt (place_of h.book call.leaf) (record { batch = number; place = place; reply = entry.reply })
+answer_due h before batch number place entry published numbered answered at =
+    let receipt : Receipt = record { batch = number; place = place; reply = entry.reply } in
+    let may = published.may in
+    let service = published.service in
+    let apart = apart_before (workers_in batch) place entry.worker (batch_workers h before batch may service)
+    (get_mapped (λ (e : Entry). e.worker) batch place entry at) in
+    let others = subst (AllByRecursion (λ m. m ≢ entry.worker)) (sym answered) apart in
+    let there = same_among h.taken (calls_in batch) service.same (call_in entry)
+    (get_each (λ (e : Entry). Among (call_in e) (calls_in batch)) batch place entry (entry_among batch) at) in
+    let IsNew = λ (leaf : ℕ). AllByRecursion (λ other. leaf ≢ other) (map (λ (e : Entry). e.leaf) (flat before)) in
+    let new = each_among (λ (c : Call). IsNew c.leaf) h.taken (call_in entry) (each_unmapped (λ (c : Call). c.leaf) IsNew h.taken may.new) there in (
+      call_of entry,
+      published.published,
+      get_each (λ (e : Entry). record_in h.taken e.worker ≡ Some (call_of e)) batch place entry (entry_taken h before batch may service) at,
+      not_among h.answered entry.worker others,
+      subst (λ book. IsReceipt (place_of book entry.leaf) receipt) (sym published.book)
+          (receipt_due before batch receipt entry new (batch_leaves h before batch may service) numbered at refl),
     )
 
--- a release that is due for the turns is due on the table
-pub release_due : (workers : ℕ) (h : HoldView) (shop : List (List Entry)) → IsReleaseDue workers shop h → batches.IsReleaseDue workers h
-release_due workers h shop due = record {
-  looked = due.looked;
-  answered = λ u took. elim due.done [
+-- once all workers were looked at, and all calls taken are answered, the flag may be released
+pub release_due : (workers : ℕ) (h : HoldView) → h.looks ≡ workers → TookNone h ⊎ ((before : List (List Entry)) × (batch : List Entry) × ServedAll before batch h)
+    → IsReleaseDue workers h
+release_due workers h looked done = record {
+  looked = looked;
+  answered = λ u took. elim done [
     | inl none ↦ let found = took_taken h.taken u took in absurd (subst (Among found.0) none.none found.1)
     | inr served ↦
         let all = served.2 in

@@ -1,5 +1,5 @@
 -- A call that is taken can be served with those that were taken before.
-use Rattle.std.proofs.Common.{ℕ, ◌≡◌, ◌≢◌, ◌<◌, ◌≤◌, ◌+◌, Option, Some, List, [], ◌∷◌, ◌++◌, length, map, arith, sym, ap, ◌∙◌, subst, length-append}
+use Rattle.std.proofs.Common.{ℕ, ◌≡◌, ◌≢◌, ◌<◌, ◌≤◌, ◌+◌, List, [], ◌∷◌, ◌++◌, length, map, arith, sym, ap, ◌∙◌, subst, length-append}
 use Rattle.std.specs.List.{AllByRecursion}
 use Rattle.seq_objects.specs.Pairs.{AreDistinct}
 use Rattle.seq_objects.proofs.Elements.{each_append, each_so}
@@ -9,14 +9,14 @@ use Rattle.batch_history.specs.Book.{flat}
 use Rattle.table_rule.specs.declared.slot.OpRecord.{OpRecord}
 use Rattle.table_rule.specs.declared.view.HoldView.{HoldView}
 use Rattle.table_rule.specs.Plays.{IsNewCall}
-use Rattle.table_rule.specs.Passes.{call_by, record_of, in_hold, after_take, after_pass}
+use Rattle.table_rule.specs.Passes.{call_by, record_of, after_take, after_pass}
 use Rattle.table_rule.proofs.ListLemmas.Last.{distinct_last}
 use Rattle.seq_objects.specs.declared.call.Call.{Call}
 use Rattle.core_model.specs.Words.{Entry}
-use Rattle.worker_crew.specs.Holds.{AreFit, StayFit}
+use Rattle.worker_turns.specs.Holds.{AreFit}
 use Rattle.launch_batch.proofs.ListLemmas.Among.{Among, all_among}
-use Rattle.worker_crew.proofs.SeatLemmas.Taken.{worker_of, record_taken}
-use Rattle.worker_crew.proofs.SeatLemmas.Books.{new_leaf}
+use Rattle.worker_turns.proofs.HoldLemmas.Taken.{worker_of, record_taken}
+use Rattle.worker_turns.proofs.HoldLemmas.Books.{new_leaf}
 
 -- what calls that may be served are, and none at all too
 record AreServable (book : List (List Entry)) (calls : List Call) : Type 0 where
@@ -77,19 +77,3 @@ fit_passed h status fit = record {
   below = each_so (λ (c : Call). c.worker < h.looks) (λ (c : Call). c.worker < h.looks + 1) (λ c below. omega (arith, below)) h.taken fit.below;
   serve = fit.serve;
 }
-
-stay_by : (h k : HoldView) (old new : Option HoldView) → old ≡ Some h → new ≡ Some k → (AreFit h → AreFit k) → StayFit old new
-stay_by h k old new was now keeps = λ a b is_a is_b fit.
-    let first : Some h ≡ Some a = sym was ∙ is_a in
-    let last : Some k ≡ Some b = sym now ∙ is_b in
-    let first_is : h ≡ a = cc in
-    let last_is : k ≡ b = cc in
-    subst AreFit last_is (keeps (subst AreFit (sym first_is) fit))
-
--- by what a look says
-pub take_fits : (h : HoldView) (u room : ℕ) (call : OpRecord) (old new : Option HoldView) → old ≡ Some h → new ≡ in_hold (after_take (call_by u call)) old → IsNewCall room h call → room ≤ 20000 → u ≡ h.looks → u < 32 → StayFit old new
-take_fits h u room call old new was now is_new few is low =
-    stay_by h (after_take (call_by u call) h) old new was (now ∙ ap (in_hold (after_take (call_by u call))) was) (fit_taken h u room call is_new few is low)
-
-pub pass_fits : (h : HoldView) (status : ℕ) (old new : Option HoldView) → old ≡ Some h → new ≡ in_hold (after_pass status) old → StayFit old new
-pass_fits h status old new was now = stay_by h (after_pass status h) old new was (now ∙ ap (in_hold (after_pass status)) was) (fit_passed h status)

@@ -3,4 +3,4 @@ pub mod Books
 pub mod Fits
 pub mod Serving
 pub mod Room
-pub mod Seats
+pub mod Passes

@@ -83,9 +83,9 @@ fn mes_of<G: Pause>(
 }
 
 impl<'a, G: Pause> Crew<'a, G> {
-    /// The crew of a non-empty job, and its workers, indexed by worker. Node 0 is on the deque of
-    /// worker 0. Over its lifetime, each deque of nodes is sure to take one push for each node of the job, and each
-    /// deque of pieces eight for each leaf that calls.
+    /// The crew of a non-empty job, and its workers, indexed by worker. Node 0 is on the deque of worker 0. Over its
+    /// lifetime, each deque of nodes is sure to take one push for each node of the job, and each deque of pieces eight
+    /// for each leaf that calls.
     pub fn make(
         alloc: Global,
         job: &Job,

@@ -1,5 +1,5 @@
 use Rattle.worker_crew.proofs.OpeningLemmas.Seating.{seat_at}
-use Rattle.worker_crew.proofs.crew.opening.Crew+CoreTable+G.make.Goals as goal
+use Rattle.worker_crew.proofs.crew.Crew.make.Goals as goal
 
 pub mes_of-requires-clause-passes : goal.mes_of-requires-clause-passes
 mes_of-requires-clause-passes g c =

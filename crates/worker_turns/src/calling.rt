@@ -40,8 +40,7 @@ fn op_in_act(table: &CoreTable, pass: &Pass, leaf: u32) -> Op
     requires pass { IsPassOf table.now pass.now }
     requires free { IsFree (pass_view pass.now) }
     requires due { IsCallDue leaf (next_in table.now (pass_view pass.now)) }
-    ensures { (n : ℕ) × (start : ℕ) × (next_in table.now (pass_view pass.now)
-        ≡ Some (acts.Call n start leaf result)) }
+    ensures { (n : ℕ) × (start : ℕ) × (next_in table.now (pass_view pass.now) ≡ Some (acts.Call n start leaf result)) }
 {
     match table.next(pass) {
         Some(
@@ -90,23 +89,18 @@ pub fn call<G: Pause, R: Wait>(
     requires free { (desk_view me.old.desk).posted ≡ [] }
     requires workers { crew.now.workers ≡ (job_in crew.now.table).workers }
     ensures pass { IsPassOf crew.now.table me.new.pass }
-    ensures me { IfOk result (λ _.
-        IsMeOf crew.now.table crew.now.decks crew.now.board me.new) }
+    ensures me { IfOk result (λ _. IsMeOf crew.now.table crew.now.decks crew.now.board me.new) }
     ensures stands { IfOk result (λ called. IsServedAs (op_of (job_in crew.now.table))
         leaf (pass_view me.old.pass).worker called.receipt (pass_view me.new.pass).book_seen) }
     ensures first { IfOk result (λ called. (pass_view me.new.pass).first_since ≡ Some called.since) }
     ensures soon { IfOk result (λ called. called.receipt.batch ≤ called.since + 1) }
     ensures late { IfOk result (λ called. (pass_view me.old.pass).greatest ≤ called.receipt.batch) }
-    ensures left { IfOk result (λ called.
-        HasLeft leaf called.receipt (pass_view me.old.pass) (pass_view me.new.pass)
+    ensures left { IfOk result (λ called. HasLeft leaf called.receipt (pass_view me.old.pass) (pass_view me.new.pass)
         × ((pass_view me.new.pass).call ≡ Got called.receipt)) }
-    ensures events { IfOk result (λ called.
-        HasCalled called.receipt (pass_view me.old.pass) (pass_view me.new.pass)) }
-    ensures looked { IfOk result (λ _.
-        (pass_view me.old.pass).stop_looks < (pass_view me.new.pass).stop_looks) }
+    ensures events { IfOk result (λ called. HasCalled called.receipt (pass_view me.old.pass) (pass_view me.new.pass)) }
+    ensures looked { IfOk result (λ _. (pass_view me.old.pass).stop_looks < (pass_view me.new.pass).stop_looks) }
     ensures free_pass { IfOk result (λ _. IsFree (pass_view me.new.pass)) }
-    ensures longer { IfOk result (λ _.
-        IsFront (pass_view me.old.pass).book_seen (pass_view me.new.pass).book_seen) }
+    ensures longer { IfOk result (λ _. IsFront (pass_view me.old.pass).book_seen (pass_view me.new.pass).book_seen) }
     ensures job { IfOk result (λ _. IsJobSame (pass_view me.old.pass) (pass_view me.new.pass)) }
     ensures free { IfOk result (λ _. (desk_view me.new.desk).posted ≡ []) }
     ensures core { IfOk result (λ _. (held me.new.hand).core ≡ (held me.old.hand).core) }

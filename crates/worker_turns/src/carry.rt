@@ -31,8 +31,7 @@ fn make_act<G: Pause, R: Wait>(
     requires free { (desk_view me.old.desk).posted ≡ [] }
     requires workers { crew.now.workers ≡ (job_in crew.now.table).workers }
     ensures pass { IsPassOf crew.now.table me.new.pass }
-    ensures me { IfOk result (λ _.
-        IsMeOf crew.now.table crew.now.decks crew.now.board me.new) }
+    ensures me { IfOk result (λ _. IsMeOf crew.now.table crew.now.decks crew.now.board me.new) }
     ensures free_pass { IfOk result (λ _. IsFree (pass_view me.new.pass)) }
     ensures free { IfOk result (λ _. (desk_view me.new.desk).posted ≡ []) }
     ensures carried { IfOk result (λ _. RanToIdle (me_seen me.old) (me_seen me.new)) }
@@ -99,8 +98,7 @@ pub(crate) fn run_to_idle<G: Pause, R: Wait>(
     requires free { (desk_view me.old.desk).posted ≡ [] }
     requires workers { crew.now.workers ≡ (job_in crew.now.table).workers }
     ensures pass { IsPassOf crew.now.table me.new.pass }
-    ensures me { IfOk result (λ _.
-        IsMeOf crew.now.table crew.now.decks crew.now.board me.new) }
+    ensures me { IfOk result (λ _. IsMeOf crew.now.table crew.now.decks crew.now.board me.new) }
     ensures free_pass { IfOk result (λ _. IsFree (pass_view me.new.pass)) }
     ensures idle { IfOk result (λ _. (pass_view me.new.pass).task ≡ Idle) }
     ensures free { IfOk result (λ _. (desk_view me.new.desk).posted ≡ []) }

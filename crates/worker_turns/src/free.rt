@@ -73,10 +73,8 @@ fn steal_once<G: Pause, R: Wait>(
     requires free { IsFree (pass_view me.old.pass) }
     requires idle { (pass_view me.old.pass).task ≡ Idle }
     ensures pass { IsPassOf crew.now.table me.new.pass }
-    ensures me { IfOk result (λ _.
-        IsMeOf crew.now.table crew.now.decks crew.now.board me.new) }
-    ensures path { IfOk result (λ gave. IsOther gave
-        (me_seen me.old) (me_seen me.new)) }
+    ensures me { IfOk result (λ _. IsMeOf crew.now.table crew.now.decks crew.now.board me.new) }
+    ensures path { IfOk result (λ gave. IsOther gave (me_seen me.old) (me_seen me.new)) }
     ensures failed { IfErr result (λ stop. stop ≡ Memory) }
 {
     let Some(next) = me.tries.next_try() else {
@@ -109,12 +107,9 @@ pub fn free_turn<G: Pause, R: Wait>(
     requires free { (desk_view me.old.desk).posted ≡ [] }
     requires workers { crew.now.workers ≡ (job_in crew.now.table).workers }
     ensures pass { IsPassOf crew.now.table me.new.pass }
-    ensures me { IfOk result (λ _.
-        IsMeOf crew.now.table crew.now.decks crew.now.board me.new) }
-    ensures path { IfOk result (λ did. IsFreeTurn did
-        (me_seen me.old) (me_seen me.new)) }
-    ensures looked { IfOk result (λ _.
-        (pass_view me.old.pass).stop_looks < (pass_view me.new.pass).stop_looks) }
+    ensures me { IfOk result (λ _. IsMeOf crew.now.table crew.now.decks crew.now.board me.new) }
+    ensures path { IfOk result (λ did. IsFreeTurn did (me_seen me.old) (me_seen me.new)) }
+    ensures looked { IfOk result (λ _. (pass_view me.old.pass).stop_looks < (pass_view me.new.pass).stop_looks) }
     ensures free_pass { IfOk result (λ _. IsFree (pass_view me.new.pass)) }
     ensures idle { IfOk result (λ _. (pass_view me.new.pass).task ≡ Idle) }
     ensures free { IfOk result (λ _. (desk_view me.new.desk).posted ≡ []) }

@@ -32,8 +32,7 @@ fn take_pending(table: &CoreTable, pass: &mut Pass, u: u32) -> Result<Call, u64>
     requires next { (h : HoldView) × ((pass_view pass.old).hold ≡ Some h) × (u ≡ h.looks) }
     requires fit { Holds AreFit (pass_view pass.old).hold }
     ensures pass { IsPassOf table.now pass.new }
-    ensures took { IfOk result (λ call. (call.worker ≡ u)
-        × (pass_view pass.new ≡ taking call (pass_view pass.old))) }
+    ensures took { IfOk result (λ call. (call.worker ≡ u) × (pass_view pass.new ≡ taking call (pass_view pass.old))) }
     ensures passed { IfErr result (λ status. (status ≢ 1)
         × (pass_view pass.new ≡ passing u status (pass_view pass.old))) }
     ensures fit { Holds AreFit (pass_view pass.new).hold }
@@ -60,8 +59,7 @@ fn collect_pending(
     requires won { Holds IsNewHold (pass_view pass.old).hold }
     requires workers { workers ≡ (job_in table.now).workers }
     ensures pass { IsPassOf table.now pass.new }
-    ensures looked { IfOk result (λ calls.
-        HasLooked workers calls.items (pass_view pass.old) (pass_view pass.new)) }
+    ensures looked { IfOk result (λ calls. HasLooked workers calls.items (pass_view pass.old) (pass_view pass.new)) }
     ensures fit { IfOk result (λ _. Holds AreFit (pass_view pass.new).hold) }
     ensures failed { IfErr result (λ stop. stop ≡ Memory) }
 {
@@ -104,14 +102,11 @@ fn serve_batch<G: Pause, R: Wait>(
 ) -> Result<Shop, Stop>
     requires me { IsMeOf crew.now.table crew.now.decks crew.now.board me.old }
     requires free { (desk_view me.old.desk).posted ≡ [] }
-    requires hold { HasTaken (job_in crew.now.table).workers calls.items shop
-        (pass_view me.old.pass).hold }
+    requires hold { HasTaken (job_in crew.now.table).workers calls.items shop (pass_view me.old.pass).hold }
     requires may { MayServe shop calls.items }
     ensures pass { IsPassOf crew.now.table me.new.pass }
-    ensures me { IfOk result (λ _.
-        IsMeOf crew.now.table crew.now.decks crew.now.board me.new) }
-    ensures batch { IfOk result (λ after. ServesBatch shop calls.items after
-        (me_seen me.old) (me_seen me.new)) }
+    ensures me { IfOk result (λ _. IsMeOf crew.now.table crew.now.decks crew.now.board me.new) }
+    ensures batch { IfOk result (λ after. ServesBatch shop calls.items after (me_seen me.old) (me_seen me.new)) }
     ensures stopped { IfErr result (λ stop. IsStop stop (pass_view me.old.pass) (pass_view me.new.pass)) }
 {
     let number = shop.history().batches().len();
@@ -138,8 +133,7 @@ pub fn launch<G: Pause, R: Wait>(
     requires won { (pass_view me.old.pass).hold ≡ Some (new_hold shop) }
     requires workers { crew.now.workers ≡ (job_in crew.now.table).workers }
     ensures pass { IsPassOf crew.now.table me.new.pass }
-    ensures me { IfOk result (λ _.
-        IsMeOf crew.now.table crew.now.decks crew.now.board me.new) }
+    ensures me { IfOk result (λ _. IsMeOf crew.now.table crew.now.decks crew.now.board me.new) }
     ensures launched { IfOk result (λ _. Launches (job_in crew.now.table).workers shop
         (me_seen me.old) (me_seen me.new)) }
     ensures stopped { IfErr result (λ stop. IsStop stop (pass_view me.old.pass) (pass_view me.new.pass)) }

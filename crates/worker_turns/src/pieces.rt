@@ -28,10 +28,8 @@ pub(crate) fn claim_and_run<G: Pause>(
     requires desk { IsDeskOf crew.now.board me.old.desk }
     ensures desk { IsDeskOf crew.now.board me.new.desk }
     ensures found { IfOk result (λ tried. spot_of tried ≡ found) }
-    ensures seen { IfOk result (λ tried.
-        desk_view me.new.desk ≡ desk_after tried (desk_view me.old.desk)) }
-    ensures same { (me.new.pass ≡ me.old.pass) × (me.new.hand ≡ me.old.hand)
-        × (me.new.tries ≡ me.old.tries) }
+    ensures seen { IfOk result (λ tried. desk_view me.new.desk ≡ desk_after tried (desk_view me.old.desk)) }
+    ensures same { (me.new.pass ≡ me.old.pass) × (me.new.hand ≡ me.old.hand) × (me.new.tries ≡ me.old.tries) }
     ensures failed { IfErr result (λ stop. stop ≡ Memory) }
 {
     let Some(spot) = found else {
@@ -54,10 +52,8 @@ pub(crate) fn pop_own_piece<G: Pause>(
     me: &mut Me,
 ) -> Result<PieceAttempt, Stop>
     requires me { IsMeOf crew.now.table crew.now.decks crew.now.board me.old }
-    ensures me { IfOk result (λ _.
-        IsMeOf crew.now.table crew.now.decks crew.now.board me.new) }
-    ensures path { IfOk result (λ tried.
-        IsOwnPiece tried (me_seen me.old) (me_seen me.new)) }
+    ensures me { IfOk result (λ _. IsMeOf crew.now.table crew.now.decks crew.now.board me.new) }
+    ensures path { IfOk result (λ tried. IsOwnPiece tried (me_seen me.old) (me_seen me.new)) }
     ensures pass { me.new.pass ≡ me.old.pass }
     ensures failed { IfErr result (λ stop. stop ≡ Memory) }
 {
@@ -69,8 +65,7 @@ pub(crate) fn pop_own_piece<G: Pause>(
 fn next_victim(tries: &mut Tries) -> Option<u32>
     ensures victim { IfSome result (λ victim. (victim ≡ (piece_try tries.old).victim)
         × (tries.new ≡ after_piece_try tries.old)) }
-    ensures other { IfSome result (λ victim.
-        (victim < tries.old.workers) × (victim ≢ tries.old.worker)) }
+    ensures other { IfSome result (λ victim. (victim < tries.old.workers) × (victim ≢ tries.old.worker)) }
     ensures none { IfNone result ((tries.old.workers ≡ 1) × (tries.new ≡ tries.old)) }
 {
     let first = tries.next_try()?;
@@ -91,10 +86,8 @@ pub(crate) fn steal_other_piece<G: Pause, R: Wait>(
     me: &mut Me,
 ) -> Result<PieceAttempt, Stop>
     requires me { IsMeOf crew.now.table crew.now.decks crew.now.board me.old }
-    ensures me { IfOk result (λ _.
-        IsMeOf crew.now.table crew.now.decks crew.now.board me.new) }
-    ensures path { IfOk result (λ tried.
-        IsOtherPiece tried (me_seen me.old) (me_seen me.new)) }
+    ensures me { IfOk result (λ _. IsMeOf crew.now.table crew.now.decks crew.now.board me.new) }
+    ensures path { IfOk result (λ tried. IsOtherPiece tried (me_seen me.old) (me_seen me.new)) }
     ensures pass { me.new.pass ≡ me.old.pass }
     ensures failed { IfErr result (λ stop. stop ≡ Memory) }
 {

@@ -46,15 +46,12 @@ pub fn trapped_turn<G: Pause, R: Wait>(
     requires free { (desk_view me.old.desk).posted ≡ [] }
     requires workers { crew.now.workers ≡ (job_in crew.now.table).workers }
     ensures pass { IsPassOf crew.now.table me.new.pass }
-    ensures me { IfOk result (λ _.
-        IsMeOf crew.now.table crew.now.decks crew.now.board me.new) }
+    ensures me { IfOk result (λ _. IsMeOf crew.now.table crew.now.decks crew.now.board me.new) }
     ensures path { IfOk result (λ turn. IsTrappedTurn (job_in crew.now.table).workers turn
         (me_seen me.old) (me_seen me.new)) }
-    ensures stays { IfOk result (λ turn. StaysTrapped turn
-        (pass_view me.old.pass) (pass_view me.new.pass)) }
+    ensures stays { IfOk result (λ turn. StaysTrapped turn (pass_view me.old.pass) (pass_view me.new.pass)) }
     ensures own { IfOk result (λ turn. LeftOwnOp (op_of (job_in crew.now.table)) turn (pass_view me.new.pass)) }
-    ensures looked { IfOk result (λ _.
-        (pass_view me.old.pass).stop_looks < (pass_view me.new.pass).stop_looks) }
+    ensures looked { IfOk result (λ _. (pass_view me.old.pass).stop_looks < (pass_view me.new.pass).stop_looks) }
     ensures free { IfOk result (λ _. (desk_view me.new.desk).posted ≡ []) }
     ensures core { IfOk result (λ _. (held me.new.hand).core ≡ (held me.old.hand).core) }
     ensures helps { IfOk result (λ _. Helps (desk_view me.old.desk) (desk_view me.new.desk)) }

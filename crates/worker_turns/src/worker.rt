@@ -25,10 +25,8 @@ fn turn<G: Pause, R: Wait>(
     requires ready { IsReady crew.now.table crew.now.decks crew.now.board me.old }
     requires workers { crew.now.workers ≡ (job_in crew.now.table).workers }
     ensures pass { IsPassOf crew.now.table me.new.pass }
-    ensures ready { result ≡ true
-        → IsReady crew.now.table crew.now.decks crew.now.board me.new }
-    ensures ended { result ≡ false
-        → ((view me.new.pass).saw_done ≡ true) ⊎ KnowsStop (pass_view me.new.pass) }
+    ensures ready { result ≡ true → IsReady crew.now.table crew.now.decks crew.now.board me.new }
+    ensures ended { result ≡ false → ((view me.new.pass).saw_done ≡ true) ⊎ KnowsStop (pass_view me.new.pass) }
 {
     if crew.table.root_done(&mut me.pass) {
         return false;

@@ -22,8 +22,7 @@ pub fn a_trapped_worker_waits_for_the_same_call()
     ensures turn { (workers : ℕ) (answer : TrappedAnswer) (old new : MeSeen) → IsTrapped old.pass
         → IsTrappedTurn workers answer old new → CallAfter answer old.pass new.pass }
     ensures launch { (workers : ℕ) (book : List (List Entry)) (old new : MeSeen) → is_trapped old.pass.call ≡ true
-        → IsFront old.pass.book_seen book
-        → Launches workers book old new → IsStillTrapped old.pass new.pass }
+        → IsFront old.pass.book_seen book → Launches workers book old new → IsStillTrapped old.pass new.pass }
 {}
 
 /// A trapped turn or a launch changes neither the worker's ends of the deques of nodes nor the record of the nodes that
@@ -41,8 +40,7 @@ pub fn a_trapped_worker_keeps_its_nodes()
 pub fn each_piece_that_is_given_is_finished()
     ensures trapped { (workers : ℕ) (answer : TrappedAnswer) (old new : MeSeen)
         → IsTrappedTurn workers answer old new → Helps old.desk new.desk }
-    ensures free { (answer : FreeAnswer) (old new : MeSeen)
-        → IsFreeTurn answer old new → Helps old.desk new.desk }
+    ensures free { (answer : FreeAnswer) (old new : MeSeen) → IsFreeTurn answer old new → Helps old.desk new.desk }
     ensures launch { (workers : ℕ) (book : List (List Entry)) (old new : MeSeen)
         → Launches workers book old new → Helps old.desk new.desk }
 {}
@@ -54,6 +52,5 @@ pub fn no_piece_is_run_at_left_and_nothing()
         → IsTrappedTurn workers (TrappedAnswers.Left receipt) old new → HelpsNone old.desk new.desk }
     ensures trapped { (workers : ℕ) (old new : MeSeen)
         → IsTrappedTurn workers TrappedAnswers.Nothing old new → HelpsNone old.desk new.desk }
-    ensures free { (old new : MeSeen)
-        → IsFreeTurn FreeAnswers.Nothing old new → HelpsNone old.desk new.desk }
+    ensures free { (old new : MeSeen) → IsFreeTurn FreeAnswers.Nothing old new → HelpsNone old.desk new.desk }
 {}

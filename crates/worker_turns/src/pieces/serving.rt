@@ -37,11 +37,9 @@ fn post_all<G: Pause>(
     requires free { (desk_view me.old.desk).posted ≡ [] }
     requires below { AllByRecursion (λ input. place_of input < 56) ins.items }
     requires ascend { StrictlyAscends (map place_of ins.items) }
-    ensures me { IfOk result (λ _.
-        IsMeOf crew.now.table crew.now.decks crew.now.board me.new) }
+    ensures me { IfOk result (λ _. IsMeOf crew.now.table crew.now.decks crew.now.board me.new) }
     ensures places { IfOk result (λ places. places.items ≡ map place_of ins.items) }
-    ensures desk { IfOk result (λ _.
-        desk_view me.new.desk ≡ after_posts ins.items (desk_view me.old.desk)) }
+    ensures desk { IfOk result (λ _. desk_view me.new.desk ≡ after_posts ins.items (desk_view me.old.desk)) }
     ensures core { (held me.new.hand).core ≡ (held me.old.hand).core }
     ensures pass { me.new.pass ≡ me.old.pass }
     ensures failed { IfErr result (λ stop. stop ≡ Memory) }
@@ -54,11 +52,8 @@ fn post_all<G: Pause>(
         let place = input.place();
         places.push(place)?;
         crew.board.post(&mut me.desk, place, input);
-        if crew
-            .decks
-            .push_piece(&mut me.hand, Spot { row, place })
-            .is_err()
-        {
+        let spot = Spot { row, place };
+        if crew.decks.push_piece(&mut me.hand, spot).is_err() {
             return Err(Stop::Memory);
         }
     }
@@ -68,8 +63,7 @@ fn post_all<G: Pause>(
 /// Runs pieces of the worker's own deque until a pop gives none, or after 64 pops. A batch has at most 56 pieces.
 fn run_own<G: Pause>(alloc: Global, crew: &Crew<G>, me: &mut Me) -> Result<(), Stop>
     requires me { IsMeOf crew.now.table crew.now.decks crew.now.board me.old }
-    ensures me { IfOk result (λ _.
-        IsMeOf crew.now.table crew.now.decks crew.now.board me.new) }
+    ensures me { IfOk result (λ _. IsMeOf crew.now.table crew.now.decks crew.now.board me.new) }
     ensures desk { IfOk result (λ _. DrainsRow 0 (desk_view me.old.desk) (desk_view me.new.desk)) }
     ensures core { IfOk result (λ _. (held me.new.hand).core ≡ (held me.old.hand).core) }
     ensures pass { me.new.pass ≡ me.old.pass }
@@ -97,8 +91,7 @@ fn collect_one<G: Pause, R: Wait>(
     requires first { (input : Input) × (rest : List (ℕ × Input))
         × ((desk_view me.old.desk).posted ≡ (place, input) ∷ rest) }
     ensures pass { IsPassOf crew.now.table me.new.pass }
-    ensures me { IfOk result (λ _.
-        IsMeOf crew.now.table crew.now.decks crew.now.board me.new) }
+    ensures me { IfOk result (λ _. IsMeOf crew.now.table crew.now.decks crew.now.board me.new) }
     ensures meets { IfOk result (λ out. (input : Input) (rest : List (ℕ × Input))
         → (desk_view me.old.desk).posted ≡ (place, input) ∷ rest → Meets input out) }
     ensures desk { IfOk result (λ _. DrainsRow 1 (desk_view me.old.desk) (desk_view me.new.desk)) }
@@ -130,15 +123,12 @@ fn collect_all<G: Pause, R: Wait>(
 ) -> Result<Vec<PieceOut>, Stop>
     requires me { IsMeOf crew.now.table crew.now.decks crew.now.board me.old }
     requires posted { (ins : List Input) × (places.now ≡ map place_of ins)
-        × ((desk_view me.old.desk).posted ≡ map with_place ins)
-        × AllByRecursion (λ input. place_of input < 56) ins }
+        × ((desk_view me.old.desk).posted ≡ map with_place ins) × AllByRecursion (λ input. place_of input < 56) ins }
     ensures pass { IsPassOf crew.now.table me.new.pass }
-    ensures me { IfOk result (λ _.
-        IsMeOf crew.now.table crew.now.decks crew.now.board me.new) }
+    ensures me { IfOk result (λ _. IsMeOf crew.now.table crew.now.decks crew.now.board me.new) }
     ensures meet { IfOk result (λ outs. (ins : List Input)
         → (desk_view me.old.desk).posted ≡ map with_place ins → AllMeet Meets ins outs.items) }
-    ensures desk { IfOk result (λ _.
-        DrainsRow (length places.now) (desk_view me.old.desk) (desk_view me.new.desk)) }
+    ensures desk { IfOk result (λ _. DrainsRow (length places.now) (desk_view me.old.desk) (desk_view me.new.desk)) }
     ensures core { IfOk result (λ _. (held me.new.hand).core ≡ (held me.old.hand).core) }
     ensures seen { IfOk result (λ _. HasOnlyLooked (pass_view me.old.pass) (pass_view me.new.pass)) }
     ensures stopped { IfErr result (λ stop. IsStop stop (pass_view me.old.pass) (pass_view me.new.pass)) }
@@ -164,8 +154,7 @@ pub(crate) fn serve_pieces<G: Pause, R: Wait>(
     requires below { AllByRecursion (λ input. place_of input < 56) ins.items }
     requires ascend { StrictlyAscends (map place_of ins.items) }
     ensures pass { IsPassOf crew.now.table me.new.pass }
-    ensures me { IfOk result (λ _.
-        IsMeOf crew.now.table crew.now.decks crew.now.board me.new) }
+    ensures me { IfOk result (λ _. IsMeOf crew.now.table crew.now.decks crew.now.board me.new) }
     ensures meet { IfOk result (λ outs. AllMeet Meets ins.items outs.items) }
     ensures desk { IfOk result (λ _.
         ExecutesPieces (map place_of ins.items) (desk_view me.old.desk) (desk_view me.new.desk)) }

@@ -8,8 +8,28 @@ use Rattle.worker_turns.proofs.HoldLemmas.Passes.{own_of}
 use Rattle.worker_turns.proofs.CarryLemmas.Steps.{ok_by, carried_step, carried_open, carried_call, front_called, arrived}
 use Rattle.worker_turns.proofs.carry.make_act.Goals as goal
 
+pub returns-in-Start-clause-me : goal.returns-in-Start-clause-me
+returns-in-Start-clause-me g c =
+    let is = own_of _ _ (c.tick.ensures.started _ _ (c.requires.due ∙ ap Some c.in-Start.is)) in
+    record { pass = c.tick.ensures.pass; hand = c.requires.me.hand; desk = c.requires.me.desk; worker = ap (λ (p : PassView). p.worker) is ∙ c.requires.me.worker; row = c.requires.me.row; tries = c.requires.me.tries; workers = c.requires.me.workers }
+
+pub returns-in-Start-clause-free_pass : goal.returns-in-Start-clause-free_pass
+returns-in-Start-clause-free_pass g c =
+    let is = own_of _ _ (c.tick.ensures.started _ _ (c.requires.due ∙ ap Some c.in-Start.is)) in
+    (ap (λ (p : PassView). is_trapped p.call) is ∙ c.requires.free_pass.0, ap (λ (p : PassView). p.hold) is ∙ c.requires.free_pass.1)
+
 pub returns-in-Start-clause-carried : goal.returns-in-Start-clause-carried
 returns-in-Start-clause-carried g c = let t = c.tick.ensures.started _ _ (c.requires.due ∙ ap Some c.in-Start.is) in carried_step _ _ _ _ _ (_ ∷ []) (own_of _ _ t) refl refl
+
+pub returns-in-End-clause-me : goal.returns-in-End-clause-me
+returns-in-End-clause-me g c =
+    let is = own_of _ _ (c.tick-in-End.ensures.ended _ _ (c.requires.due ∙ ap Some c.in-End.is)) in
+    record { pass = c.tick-in-End.ensures.pass; hand = c.requires.me.hand; desk = c.requires.me.desk; worker = ap (λ (p : PassView). p.worker) is ∙ c.requires.me.worker; row = c.requires.me.row; tries = c.requires.me.tries; workers = c.requires.me.workers }
+
+pub returns-in-End-clause-free_pass : goal.returns-in-End-clause-free_pass
+returns-in-End-clause-free_pass g c =
+    let is = own_of _ _ (c.tick-in-End.ensures.ended _ _ (c.requires.due ∙ ap Some c.in-End.is)) in
+    (ap (λ (p : PassView). is_trapped p.call) is ∙ c.requires.free_pass.0, ap (λ (p : PassView). p.hold) is ∙ c.requires.free_pass.1)
 
 pub returns-in-End-clause-carried : goal.returns-in-End-clause-carried
 returns-in-End-clause-carried g c = let t = c.tick-in-End.ensures.ended _ _ (c.requires.due ∙ ap Some c.in-End.is) in carried_step _ _ _ _ _ (_ ∷ []) (own_of _ _ t) refl refl

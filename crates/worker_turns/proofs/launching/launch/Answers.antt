@@ -17,8 +17,8 @@ release-requires-clause-due g c =
     let none : length calls ≡ 0 = search (rules, c.is_empty.ensures, c.if-is_empty.true) in
     none_release old mid workers calls c.args.shop c.requires.won is (no_call calls none)
 
-pub release-2-requires-clause-due : goal.release-2-requires-clause-due
-release-2-requires-clause-due g c =
+pub release-requires-2-clause-due : goal.release-requires-2-clause-due
+release-requires-2-clause-due g c =
     let workers = (job_in c.args.crew.now.table).workers in
     let calls = c.in_ok-calls.calls.items in
     let old = pass_view c.args.me.now.pass in

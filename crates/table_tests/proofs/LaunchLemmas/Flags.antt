@@ -28,7 +28,6 @@ use Rattle.core_table.specs.Passes.{IsPassOf, job_in, view, pass_view}
 use Rattle.worker_turns.specs.Holds.{workers_in}
 use Rattle.worker_turns.proofs.HoldLemmas.Fits.{fit_taken, fit_passed}
 use Rattle.worker_turns.proofs.HoldLemmas.Serving as serving
-use Rattle.worker_turns.proofs.HoldLemmas.Taken.{took_taken}
 use Rattle.table_tests.specs.Adds.{IsTwoAdds}
 use Rattle.table_tests.specs.Launches.{HasFlag, Answers}
 

@@ -6,11 +6,6 @@ use Rattle.core_model.specs.Words.{Entry}
 use Rattle.core_model.specs.Operations.{place_of, IsReceipt}
 use Rattle.table_rule.specs.declared.slot.OpRecord.{OpRecord}
 use Rattle.table_rule.specs.Shows.{record_in, among}
-use Rattle.core_table.specs.declared.table.CoreTable.{CoreTable}
-use Rattle.core_table.specs.declared.table.Pass.{Pass}
-use Rattle.core_table.specs.Passes.{IsPassOf, job_in, pass_view}
-use Rattle.core_table.proofs.PassLemmas.PassKept.{looks_at}
-use Rattle.table_rule.proofs.TableLemmas.Moved.{record_took}
 use Rattle.worker_crew.specs.Words.{Receipt}
 use Rattle.table_rule.specs.declared.view.HoldView.{HoldView}
 use Rattle.table_rule.specs.Passes.{after_answer, in_hold, answering, without_first}
@@ -55,13 +50,6 @@ answer_due p q number k batch e receipt at is due now =
     subst (λ (r : PassView). MayAnswer e.worker receipt r.hold) (sym now)
     (subst (λ (ws : List ℕ). MayAnswer e.worker receipt (in_hold (after_answers ws) p.hold)) (taken_workers k batch)
     (subst (λ (r : Receipt). MayAnswer e.worker r (in_hold (after_answers (take k (workers_in batch))) p.hold)) (sym is) (due_in number k batch e p.hold at due)))
-
--- a worker that may be answered is one of the table's
-pub answer_low : (table : CoreTable) (pass : Pass) (u : ℕ) (receipt : Receipt) → IsPassOf table pass → MayAnswer u receipt (pass_view pass).hold → u < (job_in table).workers
-answer_low table pass u receipt own due =
-    let below = (own.8.holds due.0 due.2).2.below u (record_took due.0.taken u due.1 due.4) in
-    let looks = looks_at (job_in table).workers (pass_view pass).hold due.0 own.10 due.2 in
-    omega (arith, below, looks)
 
 -- one more taken out of a list
 without_more : (ws : List ℕ) (u : ℕ) (xs : List ℕ) → without_first u (without_all ws xs) ≡ without_all (ws ++ u ∷ []) xs

@@ -2,15 +2,9 @@ use Rattle.std.proofs.Common.{refl, arith}
 use Rattle.std.proofs.lemmas.Option.{slice_get-get_or}
 use Rattle.core_table.specs.Passes.{pass_view}
 use Rattle.worker_turns.proofs.HoldLemmas.Passes.{own_of}
-use Rattle.worker_turns.proofs.LaunchLemmas.Answering.{answer_due, answer_low, answered_more, entry_at_itself}
+use Rattle.worker_turns.proofs.LaunchLemmas.Answering.{answer_due, answered_more, entry_at_itself}
 use Rattle.worker_turns.proofs.LaunchLemmas.Batches.{few_answers}
 use Rattle.worker_turns.proofs.launching.answer_all.Goals as goal
-
-pub answer-requires-clause-low : goal.answer-requires-clause-low
-answer-requires-clause-low c =
-    answer_low c.args.table.now c.loop-place.pass _ _ c.loop-place.invariant.pass
-    (answer_due (pass_view c.args.pass.now) _ c.args.number c.loop-place.place c.args.batch.now _ _
-    (slice_get-get_or c.args.batch.now c.loop-place.place _ c.loop-place-test.true) refl c.requires.published c.loop-place.invariant.seen)
 
 pub answer-requires-clause-due : goal.answer-requires-clause-due
 answer-requires-clause-due c =

@@ -13,7 +13,7 @@ use Rattle.worker_turns.proofs.HoldLemmas.Room.{calls_few}
 use Rattle.worker_turns.proofs.launching.take_pending.Goals as goal
 
 pub take-requires-clause-due : goal.take-requires-clause-due
-take-requires-clause-due c = let next = c.requires.next in (next.0, next.1, next.2, c.requires.below)
+take-requires-clause-due c = let next = c.requires.next in (next.0, next.1, (next.2, c.requires.below))
 
 pub returns-in-Ok-clause-fit : goal.returns-in-Ok-clause-fit
 returns-in-Ok-clause-fit c =

@@ -3,7 +3,7 @@ use Rattle.std.specs.Prelude.{◌≡◌, ◌≢◌, ◌<◌, ◌^◌, List, [], 
 use Rattle.std.specs.List.{AllByRecursion}
 use Rattle.seq_objects.specs.Stores.{Store, opening_store, store_after, store_reply}
 use Rattle.seq_objects.specs.BatchOrder.{ComesFirst}
-use Rattle.seq_objects.specs.Pairs.{EachPair, AreDistinct}
+use Rattle.seq_objects.specs.Pairs.{AllPairsByRecursion, AreDistinct}
 use Rattle.batch_history.specs.declared.batch.Entry.{Entry}
 
 -- the entries of a book, one batch after another
@@ -23,7 +23,7 @@ IsLegal book = IsLegalFrom opening_store (flat book)
 -- a batch is not empty, in batch order, and of distinct workers
 pub record IsBatch (batch : List Entry) : Type 0 where
   pub some : batch ≢ []
-  pub order : EachPair (λ first second. ComesFirst first.op first.worker second.op second.worker) batch
+  pub order : AllPairsByRecursion (λ first second. ComesFirst first.op first.worker second.op second.worker) batch
   pub workers : AreDistinct (map (λ entry. entry.worker) batch)
 
 -- the invariant of a `History`: legal batches, workers below 32, distinct leaves, and leaves below 2^32

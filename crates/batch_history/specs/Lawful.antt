@@ -9,7 +9,7 @@ use Rattle.seq_objects.specs.declared.act.Act.TheVariants.{Work}
 use Rattle.sp_order.specs.Precedence.{IsBefore, leaf_count}
 use Rattle.sp_order.specs.Jobs.{JobValue}
 use Rattle.sp_order.specs.Sources.{IsCallLeaf}
-use Rattle.seq_objects.specs.Pairs.{HasEachOnce}
+use Rattle.seq_objects.specs.Pairs.{IsEnumerationOf}
 use Rattle.batch_history.specs.Book.{flat, IsLegal, IsBatch}
 use Rattle.batch_history.specs.Operations.{op_of}
 use Rattle.batch_history.specs.declared.batch.Entry.{Entry}
@@ -28,7 +28,7 @@ pub record HasRows (job : JobValue) (workers : ℕ) (report : Report) : Type 0 w
   pub leaves : map (λ row. row.leaf) report.rows ≡ range_with_len 0 (leaf_count job.shape)
   pub among : AllByRecursion (λ row. row.worker < workers) report.rows
   pub starts_first : AllByRecursion (λ row. row.start < row.end) report.rows
-  pub ticks : HasEachOnce (λ tick. tick < 2 * leaf_count job.shape) (ticks_of report.rows)
+  pub ticks : IsEnumerationOf (λ tick. tick < 2 * leaf_count job.shape) (ticks_of report.rows)
 
 -- `P` holds of the rows of leaves `u` and `v`
 abbrev pub ForRows : Report → ℕ → ℕ → (Row → Row → Type 0) → Type 0
@@ -42,7 +42,7 @@ pub record KeepsOrder (job : JobValue) (report : Report) : Type 0 where
 
 -- The book has each calling leaf exactly once, with the leaf's operation under this book and the worker of its row.
 pub record HasCalls (job : JobValue) (report : Report) : Type 0 where
-  pub leaves : HasEachOnce (IsCallLeaf job.acts) (map (λ entry. entry.leaf) (flat report.history))
+  pub leaves : IsEnumerationOf (IsCallLeaf job.acts) (map (λ entry. entry.leaf) (flat report.history))
   pub operations : AllByRecursion (λ entry. op_of job report.history entry.leaf ≡ Some entry.op) (flat report.history)
   pub workers : AllByRecursion (λ entry. ForSome (slice_get report.rows entry.leaf) (λ row. row.worker ≡ entry.worker)) (flat report.history)
 

@@ -1,7 +1,7 @@
 -- Operations one after another: queries change nothing.
 use Rattle.std.proofs.Common.{◌≡◌, ℕ, Bool, true, false, List, [], ◌∷◌, ◌++◌, map, refl, ap, ◌∙◌, sym}
 use Rattle.std.specs.List.{AllByRecursion}
-use Rattle.seq_objects.specs.Pairs.{EachPair}
+use Rattle.seq_objects.specs.Pairs.{AllPairsByRecursion}
 use Rattle.keyed_pieces.specs.Keyed.{replies_to_each}
 use Rattle.rank_nodes.specs.declared.entry.Entry.{Entry}
 use Rattle.seq_objects.specs.declared.reply.Reply.{Reply}
@@ -79,7 +79,7 @@ all_later : (first : MapCall) (calls : List MapCall) → is_query first.what ≡
 all_later first [] is all = tt
 all_later first (call ∷ calls) is all = (not_a_query (is_query call.what) first call (rw is at all.0), all_later first calls is all.1)
 
-pub in_parts : (calls : List MapCall) → EachPair ComesFirst calls → InParts (operations calls)
+pub in_parts : (calls : List MapCall) → AllPairsByRecursion ComesFirst calls → InParts (operations calls)
 in_parts [] order = record { queries = []; updates = []; are = refl; all_queries = tt; all_updates = tt }
 in_parts (call ∷ calls) order = step (is_query call.what) refl (in_parts calls order.1) where
   step : (t : Bool) → is_query call.what ≡ t → InParts (operations calls) → InParts (operations (call ∷ calls))

@@ -1,6 +1,6 @@
 -- The calls of one batch, and batches one after another.
 use Rattle.std.specs.Prelude.{◌≡◌, ℕ, suc, ◌<◌, ◌≤◌, ◌⊎◌, Bool, true, false, not, nat_le, if◌then◌else◌, List, [], ◌∷◌, ◌++◌, length, map, filter, ⊤}
-use Rattle.seq_objects.specs.Pairs.{EachPair, AreDistinct}
+use Rattle.seq_objects.specs.Pairs.{AllPairsByRecursion, AreDistinct}
 use Rattle.seq_objects.specs.declared.reply.Reply.{Reply}
 use Rattle.rank_nodes.specs.declared.entry.Entry.{Entry}
 use Rattle.batched_map.specs.declared.call.MapOp.{MapOp}
@@ -25,7 +25,7 @@ ComesFirst first second = ComesFirstOf (is_query first.what) (is_query second.wh
 -- the calls are those of one batch: at most 32, in batch order, of distinct workers
 pub record AreMapBatch (calls : List MapCall) : Type 0 where
   pub few : length calls ≤ 32
-  pub order : EachPair ComesFirst calls
+  pub order : AllPairsByRecursion ComesFirst calls
   pub workers : AreDistinct (map (λ call. call.worker) calls)
 
 -- operations as the calls of the workers `worker`, `worker` + 1, ..

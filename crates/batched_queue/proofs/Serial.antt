@@ -1,7 +1,7 @@
 -- Puts, and then gets, on one list; and batches one after another.
 use Rattle.std.proofs.Common.{◌≡◌, ℕ, zero, suc, ◌-◌, ◌≤◌, min, List, [], ◌∷◌, ◌++◌, length, map, take, drop, replicate, Option, Some, None, refl, ap, sym, ◌∙◌, arith, append_assoc, append-nil}
 use Rattle.std.specs.List.{AllByRecursion}
-use Rattle.seq_objects.specs.Pairs.{EachPair}
+use Rattle.seq_objects.specs.Pairs.{AllPairsByRecursion}
 use Rattle.seq_objects.specs.declared.reply.Reply.TheVariants as reply
 use Rattle.batched_queue.specs.declared.call.FifoCall.{FifoCall}
 use Rattle.batched_queue.specs.Fifo.{fifo, fifo_after, fifo_replies, operations, numbers_put, numbers_got}
@@ -62,7 +62,7 @@ pub record ArePutsAndGets (n : ℕ) (asked : List (Option ℕ)) : Type 0 where
   pub is : asked ≡ map (λ item. Some item) (numbers_put asked) ++ replicate (n - length (numbers_put asked)) None
   pub few : length (numbers_put asked) ≤ n
 
-pub puts_and_gets : (calls : List FifoCall) → EachPair InOrder calls → ArePutsAndGets (length calls) (operations calls)
+pub puts_and_gets : (calls : List FifoCall) → AllPairsByRecursion InOrder calls → ArePutsAndGets (length calls) (operations calls)
 puts_and_gets [] all = record { is = refl; few = omega arith }
 puts_and_gets (call ∷ calls) all = one call.item all.0 (puts_and_gets calls all.1) where
   one : (item : Option ℕ) → AllByRecursion (λ later. ComesFirst item call.worker later.item later.worker) calls

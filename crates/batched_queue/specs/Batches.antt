@@ -1,6 +1,6 @@
 -- The calls of one batch, and batches one after another.
 use Rattle.std.specs.Prelude.{ℕ, suc, ◌<◌, ◌≤◌, Bool, true, false, not, List, [], ◌∷◌, ◌++◌, length, map, filter, Option, Some, None, is_some, ⊤}
-use Rattle.seq_objects.specs.Pairs.{EachPair, AreDistinct}
+use Rattle.seq_objects.specs.Pairs.{AllPairsByRecursion, AreDistinct}
 use Rattle.seq_objects.specs.declared.reply.Reply.{Reply}
 use Rattle.batched_queue.specs.declared.call.FifoCall.{FifoCall}
 use Rattle.batched_queue.specs.Fifo.{fifo_after, fifo_replies, operations}
@@ -15,7 +15,7 @@ ComesFirst None worker None worker' = worker < worker'
 -- the calls are those of one batch: at most 32, in batch order, of distinct workers
 pub record AreFifoBatch (calls : List FifoCall) : Type 0 where
   pub few : length calls ≤ 32
-  pub order : EachPair (λ first second. ComesFirst first.item first.worker second.item second.worker) calls
+  pub order : AllPairsByRecursion (λ first second. ComesFirst first.item first.worker second.item second.worker) calls
   pub workers : AreDistinct (map (λ call. call.worker) calls)
 
 -- operations as the calls of the workers `worker`, `worker` + 1, ..

@@ -18,7 +18,7 @@ use Rattle.seq_objects.specs.declared.reply.Reply.{Reply}
 use Rattle.seq_objects.specs.declared.reply.Reply.TheVariants.{Number, Unit as Done, Empty, Yes, No}
 use Rattle.seq_objects.specs.Objects.{Objects, after, reply_to, argument_of}
 use Rattle.seq_objects.specs.BatchOrder.{ComesFirst}
-use Rattle.seq_objects.specs.Pairs.{EachPair}
+use Rattle.seq_objects.specs.Pairs.{AllPairsByRecursion}
 use Rattle.seq_objects.specs.Batches.{AreInBatchOrder, AreOf, kind_of, Tree}
 use Rattle.seq_objects.specs.Serial.{of_set, after_all, replies_to_all}
 use Rattle.seq_objects.specs.Pieces.{AllMeet, BatchContext}
@@ -80,11 +80,11 @@ replies_none objects (call ∷ calls) = rw (within_none call.op (reply_to object
 
 -- filtering calls keeps the order of the others
 pairs_filter : (R : Call → Call → Type 0) (test : Call → Bool) (calls : List Call)
-    → EachPair R calls → EachPair R (filter test calls)
+    → AllPairsByRecursion R calls → AllPairsByRecursion R (filter test calls)
 pairs_filter R test [] each = tt
 pairs_filter R test (call ∷ calls) each = step (test call) (pairs_filter R test calls each.1) where
-  step : (t : Bool) → EachPair R (filter test calls)
-      → EachPair R (cond t (call ∷ filter test calls) (filter test calls))
+  step : (t : Bool) → AllPairsByRecursion R (filter test calls)
+      → AllPairsByRecursion R (cond t (call ∷ filter test calls) (filter test calls))
   step true rest = (all_filter (λ later. R call later) test calls each.0, rest)
   step false rest = rest
 

@@ -7,7 +7,7 @@ ghost use Rattle.sp_order.specs.Precedence.{leaves};
 ghost use Rattle.sp_order.specs.Preorder.{nodes_of};
 ghost use Rattle.batch_history.specs.Lawful.{Lawful};
 ghost use Rattle.table_rule.specs.Words.{word_count};
-ghost use Rattle.table_rule.specs.Shows.{IsFront, events_by, TableState};
+ghost use Rattle.table_rule.specs.Shows.{IsPrefix, events_by, TableState};
 ghost use Rattle.core_table.specs.Passes.{IsPassOf, job_in, planned_in, setting_in, view};
 ghost use Rattle.core_table.specs.Closing.{RowInWords, IsReportOfTable};
 ghost use Rattle.core_model.specs.Reports.{IsRunFrom, IsRunReport};
@@ -97,7 +97,7 @@ impl CoreTable {
             (run : IsRunFrom (job_in self) (leaves (job_tree (planned_in self))) opening_core report)
             × (events_by (view pass).own.worker run.trace ≡ (view pass).own.events)) }
         ensures model { IfOk result (IsRunReport (planned_in self) (job_in self).workers) }
-        ensures seen { IfOk result (λ report. IsFront (view pass).own.book_seen report.history) }
+        ensures seen { IfOk result (λ report. IsPrefix (view pass).own.book_seen report.history) }
     {
         self.laws_hold();
         done_leaves_have_run();

@@ -7,11 +7,11 @@ ghost use Rattle.core_model.specs.Operations.{op_of, place_of, IsReceipt};
 ghost use Rattle.table_rule.specs.declared.view.HoldView.{HoldView};
 ghost use Rattle.table_rule.specs.declared.slot.OpRecord.{OpRecord as CallRecord};
 ghost use Rattle.table_rule.specs.DueActs.{IsPostDue};
-ghost use Rattle.table_rule.specs.Shows.{record_in, among, entry_of, IsFront};
+ghost use Rattle.table_rule.specs.Shows.{record_in, among, entry_of, IsPrefix};
 ghost use Rattle.core_model.specs.Entries.{StandsAt};
 ghost use Rattle.core_table.specs.Passes.{IsPassOf, job_in, next_in, pass_view, view, IsTrapped};
 ghost use Rattle.table_rule.specs.Batches.{IsLookDue, IsPublishDue, IsReleaseDue};
-ghost use Rattle.table_rule.specs.Passes.{call_by, winning, losing, leaving, staying, releasing, taking, passing, publishing, answering};
+ghost use Rattle.table_rule.specs.Passes.{call_by, winning, refusing_win, leaving, refusing_leave, releasing, taking, skipping, publishing, answering};
 ghost use Rattle.table_rule.specs.Views.{with_step, with_found, with_post};
 ghost use Rattle.table_rule.specs.Plays.{IsNewCall};
 
@@ -51,9 +51,9 @@ impl CoreTable {
         ensures pass { IsPassOf self.now pass.new }
         ensures won { IfSome result (λ shop.
             (view pass.new ≡ with_step (winning shop) (view pass.old))
-            × IsFront (view pass.old).own.book_seen shop) }
+            × IsPrefix (view pass.old).own.book_seen shop) }
         ensures lost { IfNone result ((seen : ℕ) × (seen ≢ 0)
-            × (view pass.new ≡ with_found seen losing (view pass.old))) }
+            × (view pass.new ≡ with_found seen refusing_win (view pass.old))) }
     {
         self.laws_hold();
         let shared = &self.table.shared;
@@ -82,14 +82,14 @@ impl CoreTable {
             (call : CallRecord) × ((view pass.old).own.posted ≡ Some call)
             × (book : List (List Entry)) × (view pass.new
             ≡ with_step (leaving call receipt book) (view pass.old))
-            × IsFront (view pass.old).own.book_seen book
+            × IsPrefix (view pass.old).own.book_seen book
             × (op_of (job_in self.now) book call.leaf ≡ Some call.op)
             × StandsAt book receipt.batch receipt.place
             (entry_of (view pass.new).own.worker (record { call = call; receipt = receipt }))
             × ((view pass.old).own.before ≤ receipt.batch)
             × ((since : ℕ) → (view pass.old).own.after ≡ Some since → receipt.batch ≤ since + 1)) }
         ensures stays { IfErr result (λ seen. (seen ≢ 3)
-            × (view pass.new ≡ with_found seen staying (view pass.old))) }
+            × (view pass.new ≡ with_found seen refusing_leave (view pass.old))) }
     {
         self.laws_hold();
         let shared = &self.table.shared;
@@ -118,7 +118,7 @@ impl CoreTable {
             × (op_of (job_in self.now) h.book call.leaf ≡ Some call.op)
             × (view pass.new ≡ with_step (taking (call_by u call)) (view pass.old))) }
         ensures passed { IfErr result (λ seen. (seen ≢ 1)
-            × (view pass.new ≡ with_found seen (passing u seen) (view pass.old))) }
+            × (view pass.new ≡ with_found seen (skipping u seen) (view pass.old))) }
     {
         self.laws_hold();
         let shared = &self.table.shared;

@@ -20,13 +20,13 @@ pub record MayServe (book : List (List Entry)) (calls : List Call) : Type 0 wher
   pub most : length (flat book) + length calls ≤ 20000
 
 -- the second list is a permutation of the first
-abbrev pub AreSame : {X : Type 0} → List X → List X → Type 0
-AreSame {X} [] others = others ≡ []
-AreSame {X} (x ∷ xs) others =
-    (before : List X) × (later : List X) × (others ≡ before ++ x ∷ later) × AreSame xs (before ++ later)
+abbrev pub ArePermutations : {X : Type 0} → List X → List X → Type 0
+ArePermutations {X} [] others = others ≡ []
+ArePermutations {X} (x ∷ xs) others =
+    (before : List X) × (later : List X) × (others ≡ before ++ x ∷ later) × ArePermutations xs (before ++ later)
 
 -- the batch has exactly these calls, in batch order, with the replies of serving them one after another after the book
 pub record IsServiceOf (book : List (List Entry)) (calls : List Call) (batch : List Entry) : Type 0 where
-  pub same : AreSame calls (calls_in batch)
+  pub same : ArePermutations calls (calls_in batch)
   pub order : AreInBatchOrder (calls_in batch)
   pub replies : IsLegalFrom (served_book book) batch

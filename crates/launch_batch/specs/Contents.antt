@@ -12,7 +12,7 @@ use Rattle.batch_history.specs.declared.batch.Entry.{Entry}
 use Rattle.batch_history.specs.Book.{flat}
 use Rattle.batch_history.specs.Serving.{served_book}
 use Rattle.launch_batch.specs.declared.structures.Structures.{Structures}
-use Rattle.launch_batch.specs.Calls.{MayServe, AreSame}
+use Rattle.launch_batch.specs.Calls.{MayServe, ArePermutations}
 
 -- the objects of one kind alone; all others are as at the opening
 abbrev pub store_of_kind : ObjectKind → Store → Store
@@ -44,6 +44,6 @@ IsNarrow call = (call.leaf < 2 ^ 32) × (argument_of call.op < 2 ^ 32)
 -- `ordered` is `calls` in batch order, and `calls` may be served after the book
 pub record AreOrdered (book : List (List Entry)) (calls ordered : List Call) : Type 0 where
   pub may : MayServe book calls
-  pub same : AreSame calls ordered
+  pub same : ArePermutations calls ordered
   pub order : AreInBatchOrder ordered
   pub narrow : AllByRecursion IsNarrow ordered

@@ -7,7 +7,7 @@ ghost use Rattle.seq_objects.specs.Pieces.{AllMeet};
 ghost use Rattle.batch_history.specs.declared.batch.Entry.{Entry};
 ghost use Rattle.launch_batch.specs.declared.piece.PieceIn.{PieceIn as Input};
 ghost use Rattle.launch_batch.specs.declared.piece.PieceOut.{PieceOut as Output};
-ghost use Rattle.launch_batch.specs.Calls.{AreSame, IsServiceOf};
+ghost use Rattle.launch_batch.specs.Calls.{ArePermutations, IsServiceOf};
 ghost use Rattle.launch_batch.specs.Pieces.{Run, Meets, place_of, ArePutBack};
 
 use crate::piece::{PieceIn, PieceOut};
@@ -31,9 +31,9 @@ pub fn a_service_is_one()
 /// of the pieces' places. `meet`: if the places strictly ascend and each run's out meets its piece, all such outs meet
 /// the pieces in order, as the end of the batch requires.
 pub fn pieces_run_in_any_order()
-    ensures some { (ins : List Input) (runs : List Run) → AreSame ins (map (λ run. run.input) runs)
+    ensures some { (ins : List Input) (runs : List Run) → ArePermutations ins (map (λ run. run.input) runs)
         → (outs : List Output) × ArePutBack runs (map place_of ins) outs }
     ensures meet { (ins : List Input) (runs : List Run) (outs : List Output) → StrictlyAscends (map place_of ins)
-        → AreSame ins (map (λ run. run.input) runs) → AllByRecursion (λ run. Meets run.input run.out) runs
+        → ArePermutations ins (map (λ run. run.input) runs) → AllByRecursion (λ run. Meets run.input run.out) runs
         → ArePutBack runs (map place_of ins) outs → AllMeet Meets ins outs }
 {}

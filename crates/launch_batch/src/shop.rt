@@ -5,7 +5,7 @@ ghost use Rattle.seq_objects.specs.declared.call.Call.{Call as CallOf};
 ghost use Rattle.seq_objects.specs.Orders.{StrictlyAscends};
 ghost use Rattle.seq_objects.specs.Batches.{AreInBatchOrder};
 ghost use Rattle.seq_objects.specs.Pieces.{BatchContext};
-ghost use Rattle.launch_batch.specs.Calls.{MayServe, AreSame};
+ghost use Rattle.launch_batch.specs.Calls.{MayServe, ArePermutations};
 ghost use Rattle.launch_batch.specs.Pieces.{place_of};
 ghost use Rattle.launch_batch.specs.Places.{places, IsInOwnRow};
 ghost use Rattle.launch_batch.specs.Contexts.{IsContextOf};
@@ -91,7 +91,7 @@ impl Shop {
         requires { MayServe self calls.items }
         ensures count { IfOk result (λ p. (1 ≤ length p.1.items) × (length p.1.items ≤ 56)) }
         ensures below { IfOk result (λ p. AllByRecursion (λ input. place_of input < 56) p.1.items) }
-        ensures places { IfOk result (λ p. (ordered : List CallOf) × AreSame calls.items ordered
+        ensures places { IfOk result (λ p. (ordered : List CallOf) × ArePermutations calls.items ordered
             × AreInBatchOrder ordered × (map place_of p.1.items ≡ places self ordered)) }
         ensures rows { IfOk result (λ p. AllByRecursion IsInOwnRow p.1.items) }
         ensures ascend { IfOk result (λ p. StrictlyAscends (map place_of p.1.items)) }

@@ -5,7 +5,7 @@ use Rattle.std.specs.List.{AllByRecursion, list_any}
 use Rattle.std.proofs.lemmas.Bool.Decides.{nat_tests}
 use Rattle.std.proofs.lemmas.List.{length-map}
 use Rattle.std.proofs.lemmas.Map.Steps.{length-le_from_distinct_below}
-use Rattle.seq_objects.specs.Pairs.{HasEachOnce}
+use Rattle.seq_objects.specs.Pairs.{IsEnumerationOf}
 use Rattle.seq_objects.specs.declared.act.Act.{Act}
 use Rattle.seq_objects.proofs.Elements.{each_so, each_front}
 use Rattle.sp_order.specs.Precedence.{leaf_count}
@@ -29,7 +29,7 @@ found_below n q [] below found = cc
 found_below n q (x ∷ xs) below found = found_step n q x (eqb q x) (list_any (eqb q) xs) refl found below.0 (found_below n q xs below.1)
 
 -- there are no more entries than acts
-pub few_entries : (acts : List Act) (entries : List Entry) → HasEachOnce (IsCallLeaf acts) (leaves_in entries) → length entries ≤ length acts
+pub few_entries : (acts : List Act) (entries : List Entry) → IsEnumerationOf (IsCallLeaf acts) (leaves_in entries) → length entries ≤ length acts
 few_entries acts entries once =
     let leaves = leaves_in entries in
     let below : AllByRecursion (λ leaf. leaf < length acts) leaves = each_so (IsCallLeaf acts) (λ leaf. leaf < length acts) (λ leaf calls. call_within acts leaf calls) leaves once.only in

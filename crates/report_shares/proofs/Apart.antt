@@ -2,7 +2,7 @@
 use Rattle.std.proofs.Common.{ℕ, zero, suc, ◌≡◌, ◌≢◌, ◌+◌, ◌-◌, ◌==◌, ◌<◌, ◌≤◌, ◌⊎◌, inl, inr, Bool, true, false, cond, min, max, List, [], ◌∷◌, ◌++◌, Some, map, refl, sym, ◌∙◌, arith, slice_get, length}
 use Rattle.std.specs.List.{AllByRecursion, filter, flat_map, range_with_len, sum_by}
 use Rattle.std.proofs.lemmas.List.Sums.{sum_by-cons}
-use Rattle.seq_objects.specs.Pairs.{EachPair}
+use Rattle.seq_objects.specs.Pairs.{AllPairsByRecursion}
 use Rattle.sp_order.specs.Jobs.{JobValue}
 use Rattle.batch_history.specs.Lawful.{Lawful}
 use Rattle.batch_history.specs.declared.row.Row.{Row}
@@ -21,7 +21,7 @@ all_at P [] each = tt
 all_at P (row ∷ rows) each = (each zero row refl, all_at P rows (λ k other is. each (suc k) other is))
 
 each_pair : (R : Row → Row → Type 0) (rows : List Row)
-    → ((u v : ℕ) → u ≢ v → (row : Row) → slice_get rows u ≡ Some row → (row' : Row) → slice_get rows v ≡ Some row' → R row row') → EachPair R rows
+    → ((u v : ℕ) → u ≢ v → (row : Row) → slice_get rows u ≡ Some row → (row' : Row) → slice_get rows v ≡ Some row' → R row row') → AllPairsByRecursion R rows
 each_pair R [] each = tt
 each_pair R (row ∷ rows) each = (
   all_at (λ other. R row other) rows (λ k other is. each zero (suc k) (λ e. omega (arith, e)) row refl other is),
@@ -70,7 +70,7 @@ fit_row worker row rows from to true e first apart all left right =
     omega (arith, h, left, right, p)
 
 -- rows of one worker that are apart last at most all ticks
-pub fit : (worker : ℕ) (rows : List Row) (from to : ℕ) → AllByRecursion (λ row. row.start < row.end) rows → EachPair Apart rows
+pub fit : (worker : ℕ) (rows : List Row) (from to : ℕ) → AllByRecursion (λ row. row.start < row.end) rows → AllPairsByRecursion Apart rows
     → sum_by (lasts_for worker from to) rows ≤ to - from
 fit worker [] from to first apart = omega arith
 fit worker (row ∷ rows) from to first apart =
@@ -98,7 +98,7 @@ unfolding shares_of
 fit_columns job workers report lawful =
     let calling = calls report.history in
     let rows = report.rows in
-    let apart : EachPair Apart rows = each_pair Apart rows (λ u v differ row is row' is'. lawful.order.alone u v differ row is row' is') in
+    let apart : AllPairsByRecursion Apart rows = each_pair Apart rows (λ u v differ row is row' is'. lawful.order.alone u v differ row is row' is') in
     all_flat Fits (lane_shares calling rows) (λ worker. all_mapped Fits
     (λ column. share_in (length rows) worker column (filter (works calling worker) rows) (filter (calls_in calling worker) rows))
     (λ column.

@@ -8,7 +8,7 @@ use Rattle.std.proofs.lemmas.List.{length-drop, map-append, get_or_default}
 use Rattle.std.proofs.lemmas.List.Elements.{All-from_recursion, recursion_from_All}
 use Rattle.std.proofs.lemmas.Option.{slice_get-get_or}
 use Rattle.seq_objects.specs.BatchOrder.{ComesFirst}
-use Rattle.seq_objects.specs.Pairs.{EachPair, AreDistinct}
+use Rattle.seq_objects.specs.Pairs.{AllPairsByRecursion, AreDistinct}
 use Rattle.seq_objects.proofs.CallOrder.{first_through}
 use Rattle.seq_objects.proofs.Elements.{each_so, each_front}
 use Rattle.sp_order.specs.Jobs.{JobValue, IsJob}
@@ -48,7 +48,7 @@ before_all : (entry : Entry) (entries : List Entry) → ComesBeforeFirst entry e
 before_all entry [] first more = tt
 before_all entry (next ∷ entries) first more = (first, before_all entry entries (before_next entry next entries first more.0) more.1)
 
-pairs_of_neighbours : (entries : List Entry) → AreNeighbours entries → EachPair IsFirst entries
+pairs_of_neighbours : (entries : List Entry) → AreNeighbours entries → AllPairsByRecursion IsFirst entries
 pairs_of_neighbours [] more = tt
 pairs_of_neighbours (entry ∷ entries) more = (before_all entry entries more.0 more.1, pairs_of_neighbours entries more.1)
 
@@ -56,7 +56,7 @@ first_of_all : (entry : Entry) (entries : List Entry) → AllByRecursion (IsFirs
 first_of_all entry [] all = tt
 first_of_all entry (next ∷ entries) all = all.0
 
-neighbours_of_pairs : (entries : List Entry) → EachPair IsFirst entries → AreNeighbours entries
+neighbours_of_pairs : (entries : List Entry) → AllPairsByRecursion IsFirst entries → AreNeighbours entries
 neighbours_of_pairs [] pairs = tt
 neighbours_of_pairs (entry ∷ entries) pairs = (first_of_all entry entries pairs.0, neighbours_of_pairs entries pairs.1)
 

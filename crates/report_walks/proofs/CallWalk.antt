@@ -7,7 +7,7 @@ use Rattle.std.proofs.lemmas.Bool.{cases_lt, cases_eq, eq-eqb, ne_eqb}
 use Rattle.std.proofs.lemmas.List.{get_or-set_other, get_or-set_same, length-set, get_or-replicate, length-replicate, get_or_default, get_or_past}
 use Rattle.std.proofs.lemmas.Option.{slice_get_within}
 use Rattle.seq_objects.specs.Objects.{value_of}
-use Rattle.seq_objects.specs.Pairs.{AreDistinct, HasEachOnce}
+use Rattle.seq_objects.specs.Pairs.{AreDistinct, IsEnumerationOf}
 use Rattle.seq_objects.specs.declared.act.Act.{Act}
 use Rattle.seq_objects.specs.declared.act.Act.TheVariants.{Work, Call}
 use Rattle.seq_objects.specs.declared.op.Op.{Op}
@@ -177,10 +177,10 @@ module _ (acts : List Act) (entries : List Entry) where
       }
 
   -- where they have an entry each, all can be noted, and then each has a value
-  pub can_of_once : HasEachOnce (IsCallLeaf acts) (leaves_in entries) → CanNoteAll acts no_values entries
+  pub can_of_once : IsEnumerationOf (IsCallLeaf acts) (leaves_in entries) → CanNoteAll acts no_values entries
   can_of_once once = can_of_new acts no_values entries (record { distinct = once.distinct; calls = once.only; unseen = each_so (IsCallLeaf acts) (λ leaf. get_or no_values leaf None ≡ None) (λ leaf calls. none_at leaf) (leaves_in entries) once.only })
 
-  pub have_of_once : (values : List (Option ℕ)) → values ≡ all_noted no_values entries → HasEachOnce (IsCallLeaf acts) (leaves_in entries) → HaveValues acts values
+  pub have_of_once : (values : List (Option ℕ)) → values ≡ all_noted no_values entries → IsEnumerationOf (IsCallLeaf acts) (leaves_in entries) → HaveValues acts values
   have_of_once values is once leaf calls none =
       contained_value entries leaf (once.each leaf calls) (sym (ap (λ (vs : List (Option ℕ)). get_or vs leaf None) is ∙ value_at (can_of_once once) leaf) ∙ none)
 
@@ -239,7 +239,7 @@ pub each_of_mapped : (P : ℕ → Type 0) (entries : List Entry) → AllByRecurs
 each_of_mapped P [] all = tt
 each_of_mapped P (entry ∷ entries) all = (all.0, each_of_mapped P entries all.1)
 
-pub leaves_within : (acts : List Act) (entries : List Entry) → HasEachOnce (IsCallLeaf acts) (leaves_in entries) → AllByRecursion (λ (entry : Entry). entry.leaf < length acts) entries
+pub leaves_within : (acts : List Act) (entries : List Entry) → IsEnumerationOf (IsCallLeaf acts) (leaves_in entries) → AllByRecursion (λ (entry : Entry). entry.leaf < length acts) entries
 leaves_within acts entries once = each_so (λ (entry : Entry). IsCallLeaf acts entry.leaf) (λ (entry : Entry). entry.leaf < length acts) (λ entry calls. call_within acts entry.leaf calls) entries (each_of_mapped (IsCallLeaf acts) entries once.only)
 
 -- the calls of a report are those of a job exactly where all its entries are served

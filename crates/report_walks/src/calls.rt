@@ -2,7 +2,7 @@
 //! compares the operations.
 ghost use Rattle.std.specs.Prelude.{◌≡◌, ◌↔◌, ◌<◌, true, false, length, map, Some, IsTrue, IfOk, IfSome, IfNone};
 ghost use Rattle.std.specs.List.{AllByRecursion};
-ghost use Rattle.seq_objects.specs.Pairs.{HasEachOnce};
+ghost use Rattle.seq_objects.specs.Pairs.{IsEnumerationOf};
 ghost use Rattle.sp_order.specs.Precedence.{leaf_count};
 ghost use Rattle.sp_order.specs.Sources.{IsCallLeaf};
 ghost use Rattle.batch_history.specs.Book.{flat};
@@ -126,7 +126,7 @@ fn values_of(
     ensures some { IfOk result (λ found. IfSome found (λ values.
         AreValuesOf acts.now (flat book.now) values.items)) }
     ensures none { IfOk result (λ found. IfNone found
-        (HasEachOnce (IsCallLeaf acts.now) (map (λ entry. entry.leaf) (flat book.now)) → ⊥)) }
+        (IsEnumerationOf (IsCallLeaf acts.now) (map (λ entry. entry.leaf) (flat book.now)) → ⊥)) }
 {
     let mut values = vec![in alloc; None; acts.len()]?;
     for batch in book {

@@ -4,7 +4,7 @@ use Rattle.std.specs.List.{AllByRecursion}
 use Rattle.seq_objects.specs.declared.call.Call.{Call}
 use Rattle.seq_objects.specs.BatchOrder.{ComesFirst}
 use Rattle.seq_objects.specs.Batches.{ObjectKind, Counter, Stack, Tree, Queue, AreOneBatch, AreOf, kind_of, same_kind, calls_of}
-use Rattle.seq_objects.specs.Pairs.{EachPair}
+use Rattle.seq_objects.specs.Pairs.{AllPairsByRecursion}
 
 -- what holds of all elements holds of all that pass
 pub each_filter : {A : Type 0} (P : A → Type 0) (passes : A → Bool) (xs : List A) → AllByRecursion P xs → AllByRecursion P (filter passes xs)
@@ -14,10 +14,10 @@ each_filter P passes (x ∷ xs) each = step (passes x) (each_filter P passes xs 
   step true rest = (each.0, rest)
   step false rest = rest
 
-pairs_filter : {A : Type 0} (R : A → A → Type 0) (passes : A → Bool) (xs : List A) → EachPair R xs → EachPair R (filter passes xs)
+pairs_filter : {A : Type 0} (R : A → A → Type 0) (passes : A → Bool) (xs : List A) → AllPairsByRecursion R xs → AllPairsByRecursion R (filter passes xs)
 pairs_filter R passes [] pairs = tt
 pairs_filter R passes (x ∷ xs) pairs = step (passes x) (pairs_filter R passes xs pairs.1) where
-  step : (b : Bool) → EachPair R (filter passes xs) → EachPair R (cond b (x ∷ filter passes xs) (filter passes xs))
+  step : (b : Bool) → AllPairsByRecursion R (filter passes xs) → AllPairsByRecursion R (cond b (x ∷ filter passes xs) (filter passes xs))
   step true rest = (each_filter (R x) passes xs pairs.0, rest)
   step false rest = rest
 
@@ -29,10 +29,10 @@ each_map_filter f P passes (x ∷ xs) each = step (passes x) (each_map_filter f 
   step true rest = (each.0, rest)
   step false rest = rest
 
-pairs_map_filter : {A B : Type 0} (f : A → B) (R : B → B → Type 0) (passes : A → Bool) (xs : List A) → EachPair R (map f xs) → EachPair R (map f (filter passes xs))
+pairs_map_filter : {A B : Type 0} (f : A → B) (R : B → B → Type 0) (passes : A → Bool) (xs : List A) → AllPairsByRecursion R (map f xs) → AllPairsByRecursion R (map f (filter passes xs))
 pairs_map_filter f R passes [] pairs = tt
 pairs_map_filter f R passes (x ∷ xs) pairs = step (passes x) (pairs_map_filter f R passes xs pairs.1) where
-  step : (b : Bool) → EachPair R (map f (filter passes xs)) → EachPair R (map f (cond b (x ∷ filter passes xs) (filter passes xs)))
+  step : (b : Bool) → AllPairsByRecursion R (map f (filter passes xs)) → AllPairsByRecursion R (map f (cond b (x ∷ filter passes xs) (filter passes xs)))
   step true rest = (each_map_filter f (R (f x)) passes xs pairs.0, rest)
   step false rest = rest
 

@@ -6,11 +6,11 @@ use Rattle.seq_objects.specs.declared.op.Op.TheVariants.{CounterAdd, Push, Pop, 
 use Rattle.seq_objects.specs.declared.call.Call.{Call}
 use Rattle.seq_objects.specs.Objects.{number_of}
 use Rattle.seq_objects.specs.BatchOrder.{ComesFirst}
-use Rattle.seq_objects.specs.Pairs.{EachPair, AreDistinct}
+use Rattle.seq_objects.specs.Pairs.{AllPairsByRecursion, AreDistinct}
 
 -- each call precedes each later one in the batch order
 abbrev pub AreInBatchOrder : List Call → Type 0
-AreInBatchOrder calls = EachPair (λ first second. ComesFirst first.op first.worker second.op second.worker) calls
+AreInBatchOrder calls = AllPairsByRecursion (λ first second. ComesFirst first.op first.worker second.op second.worker) calls
 
 -- the calls form a batch: there is at least one, they are in batch order, and their workers are distinct and below 32
 pub record AreOneBatch (calls : List Call) : Type 0 where

@@ -119,12 +119,12 @@ least_told None n = Some n
 least_told (Some b) n = Some (min b n)
 
 -- after a `since` that answered n
-abbrev pub hearing : ℕ → Maybe ℕ → PassView → PassView
-hearing n first p = record p { greatest = max p.greatest n; after = least_told p.after n; first_since = first }
+abbrev pub counting_batches : ℕ → Maybe ℕ → PassView → PassView
+counting_batches n first p = record p { greatest = max p.greatest n; after = least_told p.after n; first_since = first }
 
 -- after a refused leave
-abbrev pub staying : PassView → PassView
-staying p = record p { refused_leaves = p.refused_leaves + 1 }
+abbrev pub refusing_leave : PassView → PassView
+refusing_leave p = record p { refused_leaves = p.refused_leaves + 1 }
 
 -- after a leave with this receipt of this call, at which the pass saw this book
 abbrev pub leaving : OpRecord → Receipt → List (List Entry) → PassView → PassView
@@ -139,8 +139,8 @@ leaving call receipt book p = record p {
 abbrev pub winning : List (List Entry) → PassView → PassView
 winning book p = record p { wins = p.wins + 1; hold = Some (new_hold book); events = p.events ++ made.Win ∷ [] }
 
-abbrev pub losing : PassView → PassView
-losing p = record p { refused_wins = p.refused_wins + 1 }
+abbrev pub refusing_win : PassView → PassView
+refusing_win p = record p { refused_wins = p.refused_wins + 1 }
 
 abbrev pub in_hold : (HoldView → HoldView) → Maybe HoldView → Maybe HoldView
 in_hold f None = None
@@ -152,8 +152,8 @@ with_hold event f p = record p { hold = in_hold f p.hold; events = p.events ++ e
 abbrev pub taking : Call → PassView → PassView
 taking call = with_hold (made.Take call.worker) (after_take call)
 
-abbrev pub passing : ℕ → ℕ → PassView → PassView
-passing u status = with_hold (made.Take u) (after_pass status)
+abbrev pub skipping : ℕ → ℕ → PassView → PassView
+skipping u status = with_hold (made.Take u) (after_pass status)
 
 abbrev pub publishing : List Entry → PassView → PassView
 publishing batch = with_hold made.Publish (after_publish batch)

@@ -16,9 +16,9 @@ use Rattle.table_rule.specs.declared.view.View.{View}
 use Rattle.table_rule.specs.Words.{flag_at, count_at, stop_at, node_at, value_at}
 use Rattle.table_rule.specs.Batches.{IsPublishDue}
 use Rattle.core_model.specs.Entries.{StandsAt}
-use Rattle.table_rule.specs.Shows.{record_in, entry_of, reserved, IsFront}
+use Rattle.table_rule.specs.Shows.{record_in, entry_of, reserved, IsPrefix}
 use Rattle.table_rule.specs.Tasks.{IsNext, job_seen}
-use Rattle.table_rule.specs.Passes.{call_by, claiming, refusing, with_task, opening, keeping, telling, stopping, finding_stop, finding_none, winning, losing, taking, passing, publishing, answering, releasing, leaving, staying}
+use Rattle.table_rule.specs.Passes.{call_by, claiming, refusing, with_task, opening, keeping, telling, stopping, finding_stop, finding_none, winning, refusing_win, taking, skipping, publishing, answering, releasing, leaving, refusing_leave}
 use Rattle.table_rule.specs.Views.{with_step, with_found, with_post, with_since, seeing_done, seeing_undone, enrolling}
 
 -- a seat: its view and the slots that it carries
@@ -105,8 +105,8 @@ abbrev pub won : Play
 won st m r n =
     (r ≡ 0 → (m.0.own.hold ≡ None) × (book : List (List Entry))
     × (n ≡ (with_step (winning book) m.0, (st.word, Slots.Shop book) ∷ (st.word + 1, Slots.Book (reserved book m.0.room)) ∷ m.1))
-    × IsFront m.0.own.book_seen book)
-    × (r ≢ 0 → n ≡ (with_found r losing m.0, m.1)) × (st.word ≡ flag_at m.0.workers)
+    × IsPrefix m.0.own.book_seen book)
+    × (r ≢ 0 → n ≡ (with_found r refusing_win m.0, m.1)) × (st.word ≡ flag_at m.0.workers)
 
 -- The call's leaf is neither in the book nor that of a call taken before. The book's entries, the calls taken before
 -- and this one are together at most `room`.
@@ -122,7 +122,7 @@ took st m r n =
     (h : HoldView) × (m.0.own.hold ≡ Some h) × (h.published ≡ false)
     × (r ≡ 1 → (call : OpRecord) × IsNewCall m.0.room h call × (op_of (job_seen m.0) h.book call.leaf ≡ Some call.op)
     × (n ≡ (with_step (taking (call_by st.word call)) m.0, (st.word, Slots.Record call) ∷ m.1)))
-    × (r ≢ 1 → n ≡ (with_found r (passing st.word r) m.0, m.1))
+    × (r ≢ 1 → n ≡ (with_found r (skipping st.word r) m.0, m.1))
     × (st.word ≡ h.looks)
 
 -- the view stays; the book has room for any batch that is due, and stays a history with it
@@ -160,7 +160,7 @@ abbrev pub left : Play
 left st m r n =
     (r ≡ 3 → (call : OpRecord) × (receipt : Receipt) × (m.0.own.posted ≡ Some call) × (m.0.own.before ≤ receipt.batch)
     × ((since : ℕ) → m.0.own.after ≡ Some since → receipt.batch ≤ since + 1)
-    × ((book : List (List Entry)) × IsFront m.0.own.book_seen book × (op_of (job_seen m.0) book call.leaf ≡ Some call.op)
+    × ((book : List (List Entry)) × IsPrefix m.0.own.book_seen book × (op_of (job_seen m.0) book call.leaf ≡ Some call.op)
     × StandsAt book receipt.batch receipt.place (entry_of m.0.own.worker (record { call = call; receipt = receipt }))
     × (n ≡ (with_step (leaving call receipt book) m.0, (st.word, Slots.Receipt receipt) ∷ m.1))))
-    × (r ≢ 3 → n ≡ (with_found r staying m.0, m.1)) × (st.word ≡ m.0.own.worker)
+    × (r ≢ 3 → n ≡ (with_found r refusing_leave m.0, m.1)) × (st.word ≡ m.0.own.worker)

@@ -143,8 +143,8 @@ IsTold job s task value =
     × (job.source leaf ≡ Some source) × (replied : HasReplied job s source) × (value ≡ value_of replied.place.entry.reply)
 
 -- xs is a prefix of ys
-abbrev pub IsFront : {A : Type 0} → List A → List A → Type 0
-IsFront {A} xs ys = (more : List A) × (ys ≡ xs ++ more)
+abbrev pub IsPrefix : {A : Type 0} → List A → List A → Type 0
+IsPrefix {A} xs ys = (more : List A) × (ys ≡ xs ++ more)
 
 -- What view v of seat `id` says of worker w, whose record slot is `home`. By `sits`, `id` is the one seat of the worker
 -- (`seat`).
@@ -167,7 +167,7 @@ pub record AgreesWithView (job : CoreJob) (s : State) (home : SlotHome) (seat id
   pub done : v.saw_done ≡ true → is_done (s.node 0) ≡ true
   pub since : SinceKnown job s v w
   -- the book that the pass has seen is a prefix of the book
-  pub seen : IsFront v.own.book_seen s.book
+  pub seen : IsPrefix v.own.book_seen s.book
 
 -- worker w is in the range of this seat's view
 abbrev pub HasSeat : List View → ℕ → ℕ → Type 0

@@ -8,7 +8,7 @@ use Rattle.table_rule.specs.declared.slot.OpRecord.{OpRecord}
 use Rattle.table_rule.specs.declared.view.PassView.{PassView}
 use Rattle.table_rule.specs.declared.view.View.{View}
 use Rattle.table_rule.specs.Shows.{room_of, job_of}
-use Rattle.table_rule.specs.Passes.{unused, posting, hearing}
+use Rattle.table_rule.specs.Passes.{unused, posting, counting_batches}
 
 -- a view without any step, whose range is all workers
 abbrev pub newcomer : JobValue → ℕ → ℕ → ℕ → View
@@ -73,7 +73,7 @@ told_first false told n = told
 -- after a `since` that answered n
 abbrev pub with_since : ℕ → View → View
 with_since n v = record v {
-  own = hearing n (told_first v.just_posted v.own.first_since n) v.own;
+  own = counting_batches n (told_first v.just_posted v.own.first_since n) v.own;
   since_looks = v.since_looks + 1;
   just_posted = false;
 }

@@ -8,7 +8,7 @@ ghost use Rattle.sp_order.specs.Precedence.{leaves};
 ghost use Rattle.core_model.specs.declared.setting.Setting.{Setting};
 ghost use Rattle.table_rule.specs.declared.view.View.{View};
 ghost use Rattle.table_rule.specs.Laws.{IsSound, Laws};
-ghost use Rattle.table_rule.specs.Shows.{TableState, Shown, job_of, IsFront};
+ghost use Rattle.table_rule.specs.Shows.{TableState, Shown, job_of, IsPrefix};
 ghost use Rattle.table_rule.specs.OneState.{AreOne};
 ghost use Rattle.table_rule.specs.Words.{stop_at};
 ghost use Rattle.core_model.specs.Entries.{StandsAt};
@@ -69,7 +69,7 @@ pub fn at_most_one_state_is_shown()
 /// the one the pass has seen.
 pub fn entries_stay_where_they_stand()
     ensures { (front book : List (List Entry)) (batch place : ℕ) (entry : Entry)
-        → IsFront front book
+        → IsPrefix front book
         → StandsAt front batch place entry
         → StandsAt book batch place entry }
 {}

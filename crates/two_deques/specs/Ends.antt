@@ -9,13 +9,13 @@ use Rattle.two_deques.specs.Rule.{FoundAtMost}
 -- For the worker's own deque: `own`, the tasks that it pushed and has not popped, the oldest first (some of them
 -- may be stolen); `pushes`, the number of its pushes; `empty_pops`, the number of its pops that found nothing.
 -- For each worker's deque, indexed by worker: `stolen`, the tasks that this worker stole there, and
--- `fruitless_steals`, the number of its steals that found nothing. `risen` says how the two counts saturate.
+-- `failed_steals`, the number of its steals that found nothing. `risen` says how the two counts saturate.
 pub record HeldEnds (T : Type 0) : Type 0 where
   pub own : List T
   pub pushes : ℕ
   pub empty_pops : ℕ
   pub stolen : List (List T)
-  pub fruitless_steals : List ℕ
+  pub failed_steals : List ℕ
 
 abbrev pub stolen_there : {T : Type 0} → Reach T → List T
 stolen_there reach = (view reach.pass).tasks
@@ -26,7 +26,7 @@ held_ends e = record {
   pushes = (worker_view e.own).pushes;
   empty_pops = e.empty_pops;
   stolen = map stolen_there e.reaches.items;
-  fruitless_steals = map (λ reach. reach.fruitless_steals) e.reaches.items;
+  failed_steals = map (λ reach. reach.failed_steals) e.reaches.items;
 }
 
 -- the initial ends among `workers` workers: all lists are empty and all counts are 0
@@ -36,7 +36,7 @@ fresh_ends T workers = record {
   pushes = 0;
   empty_pops = 0;
   stolen = replicate workers [];
-  fruitless_steals = replicate workers 0;
+  failed_steals = replicate workers 0;
 }
 
 -- the tasks that this worker stole from `victim`'s deque
@@ -64,11 +64,11 @@ abbrev pub after_steal : {T : Type 0} → ℕ → T → HeldEnds T → HeldEnds 
 after_steal victim x e = record e { stolen = slice_set e.stolen victim (stolen_from victim e ++ x ∷ []) }
 
 -- after a steal from `victim`'s deque that found nothing
-abbrev pub after_fruitless_steal : {T : Type 0} → ℕ → HeldEnds T → HeldEnds T
-after_fruitless_steal victim e =
+abbrev pub after_failed_steal : {T : Type 0} → ℕ → HeldEnds T → HeldEnds T
+after_failed_steal victim e =
     record e {
-      fruitless_steals = slice_set e.fruitless_steals victim
-          (risen (slice_index_or e.fruitless_steals victim 0));
+      failed_steals = slice_set e.failed_steals victim
+          (risen (slice_index_or e.failed_steals victim 0));
     }
 
 -- The cause of a pop that found nothing: the rule admits that the own deque was empty, so all tasks of `own` were

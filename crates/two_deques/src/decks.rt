@@ -1,7 +1,7 @@
 //! The deques as all workers share them, and the operations on them.
 ghost use Rattle.std.specs.Prelude.{◌≡◌, ◌≢◌, ◌<◌, ◌≤◌, IfOk, IfErr, IfNone, IfSome, OnOk};
 ghost use Rattle.two_deques.specs.Ends.{after_push, with_newest, after_empty_pop, after_steal};
-ghost use Rattle.two_deques.specs.Ends.{after_fruitless_steal, WasEmpty, HadAtMostOne};
+ghost use Rattle.two_deques.specs.Ends.{after_failed_steal, WasEmpty, HadAtMostOne};
 ghost use Rattle.two_deques.specs.Hands.{held, workers_of, core_room_of, batch_room_of};
 ghost use Rattle.two_deques.specs.Hands.{IsHandOf, AreHands};
 
@@ -100,7 +100,7 @@ impl Decks {
         ensures some { IfSome result (λ node. held hand.new
             ≡ record (held hand.old) { core = after_steal victim node (held hand.old).core }) }
         ensures none { IfNone result (held hand.new
-            ≡ record (held hand.old) { core = after_fruitless_steal victim (held hand.old).core }) }
+            ≡ record (held hand.old) { core = after_failed_steal victim (held hand.old).core }) }
         ensures cause { IfNone result (HadAtMostOne victim (held hand.old).core) }
     {
         let victim = victim as usize;
@@ -148,7 +148,7 @@ impl Decks {
         ensures some { IfSome result (λ spot. held hand.new
             ≡ record (held hand.old) { batch = after_steal victim spot (held hand.old).batch }) }
         ensures none { IfNone result (held hand.new
-            ≡ record (held hand.old) { batch = after_fruitless_steal victim (held hand.old).batch }) }
+            ≡ record (held hand.old) { batch = after_failed_steal victim (held hand.old).batch }) }
         ensures cause { IfNone result (HadAtMostOne victim (held hand.old).batch) }
     {
         let victim = victim as usize;

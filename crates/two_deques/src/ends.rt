@@ -13,7 +13,7 @@ use std::alloc::Global;
 #[derive(Drop)]
 pub struct Reach<T> {
     pub(crate) pass: Pass<T, Part<T>>,
-    pub(crate) fruitless_steals: u64,
+    pub(crate) failed_steals: u64,
     ghost thief: { (view pass).owns ≡ false },
 }
 

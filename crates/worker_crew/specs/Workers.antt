@@ -20,14 +20,14 @@ use Rattle.worker_crew.specs.Passes.{IsFree}
 
 -- The view of a worker: its pass, its ends of the deques of nodes (`core`) and of the deques of pieces (`batch`), its
 -- desk, and its tries.
-pub record MeSeen : Type 0 where
+pub record WorkerView : Type 0 where
   pub pass : PassView
   pub core : HeldEnds ℕ
   pub batch : HeldEnds Spot
   pub desk : DeskView PieceIn
   pub tries : TriesView
 
-abbrev pub me_seen : Me → MeSeen
+abbrev pub me_seen : Me → WorkerView
 me_seen me = record {
   pass = pass_view me.pass;
   core = (held me.hand).core;

@@ -4,12 +4,12 @@ use Rattle.seq_objects.specs.declared.call.Call.{Call}
 use Rattle.seq_objects.specs.Batches.{AreInBatchOrder}
 use Rattle.core_model.specs.Words.{Entry}
 use Rattle.core_model.specs.declared.event.Event.TheVariants.{Take, Publish, Answer, Release}
-use Rattle.launch_batch.specs.Calls.{AreSame}
+use Rattle.launch_batch.specs.Calls.{ArePermutations}
 use Rattle.launch_batch.specs.Places.{places}
 use Rattle.worker_crew.specs.Words.{Event}
 use Rattle.table_rule.specs.declared.view.HoldView.{HoldView}
 use Rattle.worker_turns.specs.Holds.{TookNone, ServedAll}
-use Rattle.worker_crew.specs.Workers.{MeSeen}
+use Rattle.worker_crew.specs.Workers.{WorkerView}
 use Rattle.worker_turns.specs.Pieces.{Desk}
 
 -- Pieces were posted at exactly these places of the own row, in this order, as many results were collected, and the row
@@ -26,7 +26,7 @@ pub record ExecutesPieces (posted : List ℕ) (old new : Desk) : Type 0 where
 -- `posted` is the list of places of the pieces of a batch of these calls, put in batch order, after the book.
 abbrev pub ArePlaces : List (List Entry) → List Call → List ℕ → Type 0
 ArePlaces book calls posted =
-    (ordered : List Call) × AreSame calls ordered × AreInBatchOrder ordered × (posted ≡ places book ordered)
+    (ordered : List Call) × ArePermutations calls ordered × AreInBatchOrder ordered × (posted ≡ places book ordered)
 
 -- `found` has the statuses of workers `first`, `first + 1` and so on. The result is the workers with status 1, pending.
 abbrev pub pending_in : ℕ → List ℕ → List ℕ
@@ -70,7 +70,7 @@ pub record Collects (workers : ℕ) (book : List (List Entry)) (posted : List �
 -- A launch by a worker whose win found `book`. At the release the hold was `done`, and its book is the one that the
 -- pass has seen. While the worker waited for results, it may have looked at the stop word, and found it unset. The ends
 -- of the deques of nodes are unchanged.
-pub record Launches (workers : ℕ) (book : List (List Entry)) (old new : MeSeen) : Type 0 where
+pub record Launches (workers : ℕ) (book : List (List Entry)) (old new : WorkerView) : Type 0 where
   pub done : HoldView
   pub posted : List ℕ
   pub served : List Event

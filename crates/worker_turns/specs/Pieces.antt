@@ -4,7 +4,7 @@ use Rattle.two_deques.specs.declared.spot.Spot.{Spot}
 use Rattle.two_deques.specs.declared.tries.Deck.{Deck}
 use Rattle.two_deques.specs.declared.tries.Deck.TheVariants.{CoreDeck, BatchDeck}
 use Rattle.two_deques.specs.declared.tries.Try.{Try}
-use Rattle.two_deques.specs.Ends.{HeldEnds, with_newest, after_empty_pop, after_steal, after_fruitless_steal}
+use Rattle.two_deques.specs.Ends.{HeldEnds, with_newest, after_empty_pop, after_steal, after_failed_steal}
 use Rattle.two_deques.specs.Tries.{TriesView, try_of, after_try}
 use Rattle.piece_board.specs.declared.view.DeskView.{DeskView}
 use Rattle.piece_board.specs.Desks.{after_refusal}
@@ -12,7 +12,7 @@ use Rattle.launch_batch.specs.declared.piece.PieceIn.{PieceIn}
 use Rattle.launch_batch.specs.Pieces.{place_of}
 use Rattle.worker_turns.specs.declared.attempts.PieceAttempt.{PieceAttempt}
 use Rattle.worker_turns.specs.declared.attempts.PieceAttempt.TheVariants.{Ran, Stale, Empty}
-use Rattle.worker_crew.specs.Workers.{MeSeen}
+use Rattle.worker_crew.specs.Workers.{WorkerView}
 
 abbrev pub Desk : Type 0
 Desk = DeskView PieceIn
@@ -25,7 +25,7 @@ module _ {T : Type 0} where
 
   -- a steal at the victim's deque gave this task, or nothing
   abbrev pub IsSteal : ℕ → Option T → HeldEnds T → HeldEnds T → Type 0
-  IsSteal victim None old new = new ≡ after_fruitless_steal victim old
+  IsSteal victim None old new = new ≡ after_failed_steal victim old
   IsSteal victim (Some x) old new = new ≡ after_steal victim x old
 
 abbrev pub spot_of : PieceAttempt → Option Spot
@@ -60,17 +60,17 @@ abbrev pub after_piece_try : TriesView → TriesView
 after_piece_try t = by_deck (try_of t).deck (after_try (after_try t)) (after_try t)
 
 -- a pop of the own deque of pieces, and the claim of what it gave, had this outcome; nothing else changed
-pub record IsOwnPiece (t : PieceAttempt) (old new : MeSeen) : Type 0 where
+pub record IsOwnPiece (t : PieceAttempt) (old new : WorkerView) : Type 0 where
   pub pop : IsPop (spot_of t) old.batch new.batch
   pub same : new ≡ record old { batch = new.batch; desk = desk_after t old.desk }
 
 -- a steal at the next deque of pieces, and the claim of what it gave, had this outcome; nothing else changed
-pub record IsStolenPiece (t : PieceAttempt) (old new : MeSeen) : Type 0 where
+pub record IsStolenPiece (t : PieceAttempt) (old new : WorkerView) : Type 0 where
   pub steal : IsSteal (piece_try old.tries).victim (spot_of t) old.batch new.batch
   pub same : new ≡ record old { batch = new.batch; desk = desk_after t old.desk; tries = after_piece_try old.tries }
 
 -- the same, or there is no other worker, nothing was tried, and the outcome is `Empty`
-abbrev pub IsOtherPiece : PieceAttempt → MeSeen → MeSeen → Type 0
+abbrev pub IsOtherPiece : PieceAttempt → WorkerView → WorkerView → Type 0
 IsOtherPiece t old new =
     ((old.tries.workers ≡ 1) × (t ≡ Empty) × (new ≡ old)) ⊎ IsStolenPiece t old new
 

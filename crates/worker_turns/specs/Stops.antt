@@ -4,7 +4,7 @@ use Rattle.worker_crew.specs.declared.crew.Stop.{Stop}
 use Rattle.worker_crew.specs.declared.crew.Stop.TheVariants.{Memory, Stopped}
 use Rattle.table_rule.specs.declared.view.PassView.{PassView}
 use Rattle.table_rule.specs.Passes.{finding_none}
-use Rattle.worker_crew.specs.Workers.{MeSeen}
+use Rattle.worker_crew.specs.Workers.{WorkerView}
 
 -- The pass has changed only by looks that found the stop word unset, if at all.
 pub record HasOnlyLooked (old new : PassView) : Type 0 where
@@ -12,7 +12,7 @@ pub record HasOnlyLooked (old new : PassView) : Type 0 where
   pub looks : old.stop_looks ≤ new.stop_looks
 
 -- the worker after a turn's first step, a look that found the stop word unset
-abbrev pub unstopped : MeSeen → MeSeen
+abbrev pub unstopped : WorkerView → WorkerView
 unstopped m = record m { pass = finding_none m.pass }
 
 -- the pass has set the stop word, or a look of it has found it set

@@ -10,9 +10,9 @@ use Rattle.worker_turns.specs.declared.trapped.Trapped.{Trapped}
 use Rattle.worker_turns.specs.declared.trapped.Trapped.TheVariants.{Left, Piece, Launched, Nothing}
 use Rattle.table_rule.specs.declared.slot.OpRecord.{OpRecord}
 use Rattle.table_rule.specs.declared.view.PassView.{PassView}
-use Rattle.table_rule.specs.Passes.{finding_none, staying, leaving, losing, winning}
-use Rattle.table_rule.specs.Shows.{IsFront, entry_of}
-use Rattle.worker_crew.specs.Workers.{MeSeen}
+use Rattle.table_rule.specs.Passes.{finding_none, refusing_leave, leaving, refusing_win, winning}
+use Rattle.table_rule.specs.Shows.{IsPrefix, entry_of}
+use Rattle.worker_crew.specs.Workers.{WorkerView}
 use Rattle.worker_turns.specs.Pieces.{NotRan, IsOwnPiece, IsOtherPiece}
 use Rattle.worker_turns.specs.Stops.{unstopped}
 use Rattle.worker_turns.specs.Launches.{Launches}
@@ -23,7 +23,7 @@ pub record IsLeft (receipt : Receipt) (old new : PassView) : Type 0 where
   pub call : OpRecord
   pub posted : old.posted ≡ Some call
   pub left : new ≡ leaving call receipt new.book_seen old
-  pub longer : IsFront old.book_seen new.book_seen
+  pub longer : IsPrefix old.book_seen new.book_seen
   pub stands : StandsAt new.book_seen receipt.batch receipt.place (entry_of old.worker (record { call = call; receipt = receipt }))
 
 -- the call that the pass posted last has the operation of its leaf under the book that the pass has seen
@@ -36,29 +36,29 @@ abbrev pub IsDue : ℕ → PassView → Type 0
 IsDue batch p = (p.before ≤ batch) × IfSome p.after (λ since. batch ≤ since + 1)
 
 -- the worker after a refused leave and a refused win
-abbrev pub refused_both : MeSeen → MeSeen
-refused_both m = record m { pass = losing (staying m.pass) }
+abbrev pub refused_both : WorkerView → WorkerView
+refused_both m = record m { pass = refusing_win (refusing_leave m.pass) }
 
 -- the worker after a refused leave and a win that found this book
-abbrev pub won_after : List (List Entry) → MeSeen → MeSeen
-won_after book m = record m { pass = winning book (staying m.pass) }
+abbrev pub won_after : List (List Entry) → WorkerView → WorkerView
+won_after book m = record m { pass = winning book (refusing_leave m.pass) }
 
 -- The path by answer: a look that finds the stop word unset, a pop of the own deque of pieces, a leave, a win, a steal
 -- of a piece. The path ends at the first of these tries that succeeds; a win is followed by the launch. The book that
 -- the win finds extends the one seen before.
-abbrev pub IsTrappedTurn : ℕ → Trapped → MeSeen → MeSeen → Type 0
+abbrev pub IsTrappedTurn : ℕ → Trapped → WorkerView → WorkerView → Type 0
 IsTrappedTurn workers (Left receipt) old new =
-    (own : PieceAttempt) × (a : MeSeen) × NotRan own × IsOwnPiece own (unstopped old) a
+    (own : PieceAttempt) × (a : WorkerView) × NotRan own × IsOwnPiece own (unstopped old) a
     × IsLeft receipt a.pass new.pass × (new ≡ record a { pass = new.pass })
 IsTrappedTurn workers Piece old new =
     ((spot : Spot) × IsOwnPiece (Ran spot) (unstopped old) new)
-    ⊎ ((own : PieceAttempt) × (spot : Spot) × (a : MeSeen) × NotRan own × IsOwnPiece own (unstopped old) a
+    ⊎ ((own : PieceAttempt) × (spot : Spot) × (a : WorkerView) × NotRan own × IsOwnPiece own (unstopped old) a
     × IsOtherPiece (Ran spot) (refused_both a) new)
 IsTrappedTurn workers Launched old new =
-    (own : PieceAttempt) × (a : MeSeen) × (book : List (List Entry)) × NotRan own × IsOwnPiece own (unstopped old) a
-    × Launches workers book (won_after book a) new × IsFront a.pass.book_seen book
+    (own : PieceAttempt) × (a : WorkerView) × (book : List (List Entry)) × NotRan own × IsOwnPiece own (unstopped old) a
+    × Launches workers book (won_after book a) new × IsPrefix a.pass.book_seen book
 IsTrappedTurn workers Nothing old new =
-    (own : PieceAttempt) × (other : PieceAttempt) × (a : MeSeen) × NotRan own × NotRan other × IsOwnPiece own (unstopped old) a
+    (own : PieceAttempt) × (other : PieceAttempt) × (a : WorkerView) × NotRan own × NotRan other × IsOwnPiece own (unstopped old) a
     × IsOtherPiece other (refused_both a) new
 
 -- unchanged: the worker, its task, the nodes that it claimed, was refused and opened, the number of looks that found
@@ -80,10 +80,10 @@ pub record IsCallSame (old new : PassView) : Type 0 where
   pub call : new.call ≡ old.call
   pub hold : new.hold ≡ None
   pub looks : old.stop_looks ≤ new.stop_looks
-  pub events : IsFront old.events new.events
+  pub events : IsPrefix old.events new.events
   pub posted : new.posted ≡ old.posted
   pub left : new.left ≡ old.left
-  pub book : IsFront old.book_seen new.book_seen
+  pub book : IsPrefix old.book_seen new.book_seen
   pub greatest : new.greatest ≡ old.greatest
   pub before : new.before ≡ old.before
   pub after : new.after ≡ old.after

@@ -7,7 +7,7 @@ ghost use Rattle.worker_crew.specs.Words.{Got};
 ghost use Rattle.piece_board.specs.Boards.{desk_view};
 ghost use Rattle.two_deques.specs.Hands.{held};
 ghost use Rattle.table_rule.specs.DueActs.{IsPostDue};
-ghost use Rattle.table_rule.specs.Shows.{IsFront};
+ghost use Rattle.table_rule.specs.Shows.{IsPrefix};
 ghost use Rattle.worker_crew.specs.Passes.{IsFree};
 ghost use Rattle.worker_turns.specs.Callings.{IsCallDue, IsServedAs, HasLeft, HasCalled};
 ghost use Rattle.worker_crew.specs.Workers.{IsMeOf};
@@ -100,7 +100,7 @@ pub fn call<G: Pause, R: Wait>(
     ensures events { IfOk result (λ called. HasCalled called.receipt (pass_view me.old.pass) (pass_view me.new.pass)) }
     ensures looked { IfOk result (λ _. (pass_view me.old.pass).stop_looks < (pass_view me.new.pass).stop_looks) }
     ensures free_pass { IfOk result (λ _. IsFree (pass_view me.new.pass)) }
-    ensures longer { IfOk result (λ _. IsFront (pass_view me.old.pass).book_seen (pass_view me.new.pass).book_seen) }
+    ensures longer { IfOk result (λ _. IsPrefix (pass_view me.old.pass).book_seen (pass_view me.new.pass).book_seen) }
     ensures job { IfOk result (λ _. IsJobSame (pass_view me.old.pass) (pass_view me.new.pass)) }
     ensures free { IfOk result (λ _. (desk_view me.new.desk).posted ≡ []) }
     ensures core { IfOk result (λ _. (held me.new.hand).core ≡ (held me.old.hand).core) }

@@ -5,7 +5,7 @@ ghost use Rattle.launch_batch.specs.Calls.{MayServe};
 ghost use Rattle.piece_board.specs.Boards.{desk_view};
 ghost use Rattle.core_table.specs.Passes.{IsPassOf, job_in, pass_view};
 ghost use Rattle.worker_crew.specs.declared.crew.Stop.TheVariants.{Memory};
-ghost use Rattle.table_rule.specs.Passes.{new_hold, taking, passing};
+ghost use Rattle.table_rule.specs.Passes.{new_hold, taking, skipping};
 ghost use Rattle.worker_turns.specs.Holds.{AreFit};
 ghost use Rattle.worker_crew.specs.Workers.{me_seen, IsMeOf};
 ghost use Rattle.worker_turns.specs.Launches.{Launches};
@@ -34,7 +34,7 @@ fn take_pending(table: &CoreTable, pass: &mut Pass, u: u32) -> Result<Call, u64>
     ensures pass { IsPassOf table.now pass.new }
     ensures took { IfOk result (λ call. (call.worker ≡ u) × (pass_view pass.new ≡ taking call (pass_view pass.old))) }
     ensures passed { IfErr result (λ status. (status ≢ 1)
-        × (pass_view pass.new ≡ passing u status (pass_view pass.old))) }
+        × (pass_view pass.new ≡ skipping u status (pass_view pass.old))) }
     ensures fit { Holds AreFit (pass_view pass.new).hold }
 {
     plan_stands_for_tree();

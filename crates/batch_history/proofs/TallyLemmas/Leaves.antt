@@ -11,7 +11,7 @@ use Rattle.seq_objects.specs.declared.op.Op.{Op}
 use Rattle.seq_objects.specs.declared.act.Act.{Act}
 use Rattle.seq_objects.specs.declared.act.Act.TheVariants.{Work, Call}
 use Rattle.seq_objects.specs.Orders.{one_if, copies}
-use Rattle.seq_objects.specs.Pairs.{AreDistinct, HasEachOnce}
+use Rattle.seq_objects.specs.Pairs.{AreDistinct, IsEnumerationOf}
 use Rattle.sp_order.specs.Jobs.{JobValue}
 use Rattle.sp_order.specs.Sources.{IsCallLeaf}
 use Rattle.sp_order.specs.Totals.{count_of_act, total}
@@ -94,7 +94,7 @@ total_append f (x ∷ xs) ys = omega (arith, total_append f xs ys)
 abbrev pub CountsAlike : (Op → ℕ) → List Act → Entry → Type 0
 CountsAlike f acts entry = (call : Op) × ((slice_get acts entry.leaf ≡ Some (Call call)) × (f call ≡ f entry.op))
 
-module _ (job : JobValue) (leaves : List ℕ) (each : HasEachOnce (IsCallLeaf job.acts) leaves) (f : Op → ℕ) where
+module _ (job : JobValue) (leaves : List ℕ) (each : IsEnumerationOf (IsCallLeaf job.acts) leaves) (f : Op → ℕ) where
   abbrev at : ℕ → ℕ
   at n = count_at f (slice_get job.acts n)
 
@@ -130,7 +130,7 @@ module _ (job : JobValue) (leaves : List ℕ) (each : HasEachOnce (IsCallLeaf jo
       rw (t, same) (ap (λ n. f e.op + n) (by_leaf entries all.1))
 
 -- the sum over the entries is that over the acts, for a count that counts them alike
-pub alike_total : (job : JobValue) (entries : List Entry) → HasEachOnce (IsCallLeaf job.acts) (map (λ (e : Entry). e.leaf) entries)
+pub alike_total : (job : JobValue) (entries : List Entry) → IsEnumerationOf (IsCallLeaf job.acts) (map (λ (e : Entry). e.leaf) entries)
     → (f : Op → ℕ) → AllByRecursion (CountsAlike f job.acts) entries → total f (acts_in entries) ≡ total f job.acts
 alike_total job entries each f alike =
     let leaves = map (λ (e : Entry). e.leaf) entries in
@@ -143,6 +143,6 @@ same_counts f acts [] all = tt
 same_counts f acts (e ∷ entries) all = ((e.op, (all.0, refl)), same_counts f acts entries all.1)
 
 -- the sum over the entries is that over the acts
-pub total_is : (job : JobValue) (entries : List Entry) → HasEachOnce (IsCallLeaf job.acts) (map (λ (e : Entry). e.leaf) entries)
+pub total_is : (job : JobValue) (entries : List Entry) → IsEnumerationOf (IsCallLeaf job.acts) (map (λ (e : Entry). e.leaf) entries)
     → AllByRecursion (λ (e : Entry). slice_get job.acts e.leaf ≡ Some (Call e.op)) entries → (f : Op → ℕ) → total f (acts_in entries) ≡ total f job.acts
 total_is job entries each operations f = alike_total job entries each f (same_counts f job.acts entries operations)

@@ -7,7 +7,7 @@ use Rattle.std.proofs.lemmas.List.Elements.{Contains-append_left, Contains-appen
 use Rattle.std.proofs.lemmas.Option.{slice_get-get_or}
 use Rattle.seq_objects.specs.declared.op.Op.{Op}
 use Rattle.seq_objects.specs.declared.act.Act.TheVariants.{Call}
-use Rattle.seq_objects.specs.Pairs.{EachPair}
+use Rattle.seq_objects.specs.Pairs.{AllPairsByRecursion}
 use Rattle.seq_objects.proofs.Elements.{each_append}
 use Rattle.sp_order.specs.Precedence.{Tree, leaf, seq, par, leaves, leaf_count, IsBeforeFrom, IsBefore}
 use Rattle.sp_order.specs.Jobs.{JobValue}
@@ -27,12 +27,12 @@ each_contained P (x ∷ xs) h = (h x (0, omega arith, refl), each_contained P xs
 each_at : {A : Type 0} (P : A → Type 0) (xs : List A) (x : A) → AllByRecursion P xs → Contains xs x → P x
 each_at P xs x h c = subst P c.2 (All-from_recursion P xs h c.0 x c.1)
 
-pairs_append : {A : Type 0} (R : A → A → Type 0) (xs ys : List A) → EachPair R xs → EachPair R ys
-    → AllByRecursion (λ x. AllByRecursion (R x) ys) xs → EachPair R (xs ++ ys)
+pairs_append : {A : Type 0} (R : A → A → Type 0) (xs ys : List A) → AllPairsByRecursion R xs → AllPairsByRecursion R ys
+    → AllByRecursion (λ x. AllByRecursion (R x) ys) xs → AllPairsByRecursion R (xs ++ ys)
 pairs_append R [] ys h g across = g
 pairs_append R (x ∷ xs) ys h g across = (each_append (R x) xs ys h.0 across.0, pairs_append R xs ys h.1 g across.1)
 
-pairs_contained : {A : Type 0} (R : A → A → Type 0) (xs : List A) → ((a b : A) → Contains xs a → Contains xs b → R a b) → EachPair R xs
+pairs_contained : {A : Type 0} (R : A → A → Type 0) (xs : List A) → ((a b : A) → Contains xs a → Contains xs b → R a b) → AllPairsByRecursion R xs
 pairs_contained R [] h = tt
 pairs_contained R (x ∷ xs) h = (
   each_contained (R x) xs (λ b c. h x b (0, omega arith, refl) (Contains-append_right (x ∷ []) xs b c)),
@@ -48,7 +48,7 @@ each_flat P [] h = tt
 each_flat P (batch ∷ book) h = each_append P batch (flat book) (each_contained P batch (λ e c. h 0 e c)) (each_flat P book (λ n e s. h (suc n) e s))
 
 flat_pairs : (R : Entry → Entry → Type 0) (book : List (List Entry))
-    → ((i j : ℕ) (a b : Entry) → i ≤ j → InBook book i a → InBook book j b → R a b) → EachPair R (flat book)
+    → ((i j : ℕ) (a b : Entry) → i ≤ j → InBook book i a → InBook book j b → R a b) → AllPairsByRecursion R (flat book)
 flat_pairs R [] h = tt
 flat_pairs R (batch ∷ book) h = pairs_append R batch (flat book)
     (pairs_contained R batch (λ a b ca cb. h 0 0 a b (omega arith) ca cb))

@@ -7,7 +7,7 @@ use Rattle.seq_objects.specs.BatchOrder.{ComesFirst}
 use Rattle.seq_objects.specs.Batches.{AreInBatchOrder}
 use Rattle.seq_objects.specs.declared.call.Call.{Call}
 use Rattle.core_model.proofs.Words.{Entry, Task, Status, Executing, CallState, CoreJob, Hold, State}
-use Rattle.seq_objects.specs.Pairs.{EachPair}
+use Rattle.seq_objects.specs.Pairs.{AllPairsByRecursion}
 use Rattle.batch_history.specs.Book.{IsLegalFrom}
 use Rattle.core_model.specs.Events.{has_taken, IsTakenCall, IsBatchOf}
 use Rattle.core_model.specs.Invariant.Statuses.{IsAtCall, is_taken_by}
@@ -25,7 +25,7 @@ unmapped f P [] h = tt
 unmapped f P (x ∷ xs) h = (h.0, unmapped f P xs h.1)
 
 -- what holds of each two of the calls of entries
-pairs_unmapped : {A B : Type 0} (f : A → B) (R : B → B → Type 0) (xs : List A) → EachPair R (map f xs) → EachPair (λ a b. R (f a) (f b)) xs
+pairs_unmapped : {A B : Type 0} (f : A → B) (R : B → B → Type 0) (xs : List A) → AllPairsByRecursion R (map f xs) → AllPairsByRecursion (λ a b. R (f a) (f b)) xs
 pairs_unmapped f R [] h = tt
 pairs_unmapped f R (x ∷ xs) h = (unmapped f (R (f x)) xs h.0, pairs_unmapped f R xs h.1)
 

@@ -9,7 +9,7 @@ use Rattle.sp_order.specs.Preorder.{nodes_of}
 use Rattle.sp_order.specs.Jobs.{JobValue}
 use Rattle.batch_history.specs.declared.row.Row.{Row}
 use Rattle.batch_history.specs.declared.report.Report.{Report}
-use Rattle.seq_objects.specs.Pairs.{HasEachOnce}
+use Rattle.seq_objects.specs.Pairs.{IsEnumerationOf}
 use Rattle.batch_history.specs.Book.{flat}
 use Rattle.batch_history.specs.Lawful.{HasRows, KeepsOrder, HasCalls, KeepsTicks, HasValues, Lawful}
 use Rattle.batch_history.specs.Operations.{act_of, op_in, op_of}
@@ -75,7 +75,7 @@ module _ (tree : Tree) (given : JobValue) (workers : ℕ) (s : State) (report : 
       (call.0, call.1.0)
 
   -- the leaves of the book
-  calls_each_once : HasEachOnce (IsCallLeaf given.acts) (map (λ (e : Entry). e.leaf) (flat s.book))
+  calls_each_once : IsEnumerationOf (IsCallLeaf given.acts) (map (λ (e : Entry). e.leaf) (flat s.book))
   calls_each_once = record {
     distinct = h.parts.book.leaves;
     only = each_mapped (λ (e : Entry). e.leaf) (Contains (flat s.book)) (IsCallLeaf given.acts) entry_calls (flat s.book) (contained (flat s.book));

@@ -4,7 +4,7 @@ use Rattle.std.specs.List.{AllByRecursion}
 use Rattle.std.proofs.lemmas.Cmp.{nat_eq_equiv}
 use Rattle.std.proofs.lemmas.Map.Steps.{length-le_from_distinct_below, le-length_from_below}
 use Rattle.std.proofs.lemmas.Map.Views.{Contains-from_any, list_any-from_Contains}
-use Rattle.seq_objects.specs.Pairs.{AreDistinct, HasEachOnce}
+use Rattle.seq_objects.specs.Pairs.{AreDistinct, IsEnumerationOf}
 use Rattle.batch_history.specs.Lawful.{ticks_of}
 use Rattle.batch_history.specs.declared.row.Row.{Row}
 use Rattle.core_model.proofs.Words.{Ran, Idle, CoreJob, State}
@@ -130,7 +130,7 @@ module _ (job : CoreJob) (total : ℕ) (s : State) (h : IsEnded job total s) whe
         omega (arith, most, least, ticks_length rows 0 total of)
 
     -- the numbers below twice the leaves
-    pub ticks_each_once : HasEachOnce (λ t. t < 2 * total) (ticks_of rows)
+    pub ticks_each_once : IsEnumerationOf (λ t. t < 2 * total) (ticks_of rows)
     ticks_each_once = record {
       distinct = distinct;
       only = rw tick_is at ticks_below;

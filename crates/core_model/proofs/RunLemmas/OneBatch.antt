@@ -5,7 +5,7 @@ use Rattle.std.specs.List.{AllByRecursion}
 use Rattle.seq_objects.specs.Stores.{Store, store_after, store_reply}
 use Rattle.seq_objects.specs.BatchOrder.{ComesFirst}
 use Rattle.core_model.proofs.Words.{Op, Entry, Event, Claim, Start, OpenParRight, OpenParLeft, OpenSeqLeft, OpenSeqRight, Post, Win, Take, Publish, Answer, Release, Leave, Keep, End, FinishLeaf, FinishSeq, FinishPar, ArriveFirst, ArriveSecond, CoreJob, State}
-use Rattle.seq_objects.specs.Pairs.{EachPair, AreDistinct}
+use Rattle.seq_objects.specs.Pairs.{AllPairsByRecursion, AreDistinct}
 use Rattle.batch_history.specs.Book.{IsLegalFrom}
 use Rattle.core_model.specs.Serving.{served}
 use Rattle.core_model.specs.Events.{has_taken, IsTakenCall, IsBatchOf, published, Does}
@@ -64,7 +64,7 @@ module _ (P : Entry → Type 0) (tells : (a b : Entry) → P a → P b → a.wor
     calls : AllByRecursion P xs
     only : AllByRecursion (λ (e : Entry). Q e.worker) xs
     each : (w : ℕ) → Q w → HasWorker xs w
-    order : EachPair (λ (a b : Entry). IsFirst a b) xs
+    order : AllPairsByRecursion (λ (a b : Entry). IsFirst a b) xs
     workers : AreDistinct (map (λ (e : Entry). e.worker) xs)
     legal : IsLegalFrom store xs
 

@@ -4,14 +4,14 @@ use Rattle.std.specs.Prelude.{Contains}
 use Rattle.std.proofs.lemmas.List.{map-append}
 use Rattle.std.proofs.lemmas.List.Elements.{Contains-append_left, Contains-append_right, Contains-append_cases}
 use Rattle.seq_objects.specs.declared.call.Call.{Call}
-use Rattle.launch_batch.specs.Calls.{AreSame}
+use Rattle.launch_batch.specs.Calls.{ArePermutations}
 use Rattle.launch_batch.proofs.ListLemmas.Same.{each_same, distinct_same}
 use Rattle.core_model.proofs.Words.{CoreJob, Entry}
 use Rattle.core_state.specs.Words.{Task}
 use Rattle.core_model.specs.Batches.{IsCallOf, AreTakenCalls}
 
 -- mapping a permuted list gives a permutation of the mapped list
-contains_same : {X : Type 0} (f : X → ℕ) (xs others : List X) → AreSame xs others → (n : ℕ) → Contains (map f xs) n → Contains (map f others) n
+contains_same : {X : Type 0} (f : X → ℕ) (xs others : List X) → ArePermutations xs others → (n : ℕ) → Contains (map f xs) n → Contains (map f others) n
 contains_same f [] others same n there = absurd (omega (arith, there.1))
 contains_same f (x ∷ xs) others same n there =
     let before = map f same.0 in
@@ -26,7 +26,7 @@ contains_same f (x ∷ xs) others same n there =
     ]))
 
 -- any permutation of the taken calls is the taken calls
-pub taken_too : (job : CoreJob) (book : List (List Entry)) (task : ℕ → Task) (took : ℕ → Bool) (calls others : List Call) → AreSame calls others
+pub taken_too : (job : CoreJob) (book : List (List Entry)) (task : ℕ → Task) (took : ℕ → Bool) (calls others : List Call) → ArePermutations calls others
     → AreTakenCalls job book task took calls → AreTakenCalls job book task took others
 taken_too job book task took calls others same taken = record {
   distinct = distinct_same (λ (call : Call). call.worker) calls others same taken.distinct;

@@ -11,7 +11,7 @@ use Rattle.table_rule.specs.declared.slot.Slot.{Slot}
 use Rattle.table_rule.specs.declared.slot.Slot.TheVariants as Slots
 use Rattle.table_rule.specs.Words.{WordsShow}
 use Rattle.table_rule.specs.Laws.{Laws}
-use Rattle.table_rule.specs.Shows.{TableState, reserved, BookAt, IsFront, events_by, Shows}
+use Rattle.table_rule.specs.Shows.{TableState, reserved, BookAt, IsPrefix, events_by, Shows}
 
 pub at_word : (l : List ℕ) (i a : ℕ) → get_elem? l i ≡ some a → get_or l i 0 ≡ a
 at_word [] i a e = absurd (some-ne-none a (sym e))
@@ -29,7 +29,7 @@ pub record Last (job : CoreJob) (room : ℕ) (v : View) (ws : List ℕ) (xs : Li
   pub over : is_done (state.node 0) ≡ true
   pub words : WordsShow job.workers job.plan.count ws state.node state.mark state.value state.status state.hold state.tick (length state.book)
   pub there : get_elem? xs (job.workers + 1) ≡ some (Slots.Book (reserved state.book room))
-  pub seen : IsFront v.own.book_seen state.book
+  pub seen : IsPrefix v.own.book_seen state.book
   pub seat : ℕ
   pub at : get_elem? table.views seat ≡ some v
   pub own : events_by v.own.worker shown.trace ≡ v.own.events

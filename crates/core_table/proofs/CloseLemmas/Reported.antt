@@ -19,7 +19,7 @@ use Rattle.table_rule.specs.declared.slot.Slot.{Slot}
 use Rattle.table_rule.specs.declared.slot.Slot.TheVariants as Slots
 use Rattle.core_model.specs.declared.setting.Setting.{Setting}
 use Rattle.core_model.specs.State.{opening_core}
-use Rattle.table_rule.specs.Shows.{TableState, Shown, IsFront, events_by, reserved, room_of, job_of}
+use Rattle.table_rule.specs.Shows.{TableState, Shown, IsPrefix, events_by, reserved, room_of, job_of}
 use Rattle.core_table.specs.Closing.{RowInWords, IsReportOfTable}
 use Rattle.table_rule.specs.Laws.{Laws}
 use Rattle.core_table.proofs.PassLemmas.PassKept.{books}
@@ -35,7 +35,7 @@ pub record Reported (key : Setting) (v : View) (report : Report) : Type 0 where
   pub run : IsRunFrom (job_of key) (leaves (job_tree key.job)) opening_core report
   pub own : events_by v.own.worker run.trace ≡ v.own.events
   pub parts : Parts (job_of key) run.last.state
-  pub seen : IsFront v.own.book_seen report.history
+  pub seen : IsPrefix v.own.book_seen report.history
 
 pub reported_last : (key : Setting) (v : View) (ws : List ℕ) (xs : List Slot) (laws : Laws (job_of key)) → Last (job_of key) (room_of key) v ws xs
     → key.workers ≤ 32 → (got : Slot) (book : ReservedView) (history : List (List Entry)) (rows : List Row)
@@ -79,7 +79,7 @@ reported_last key v ws xs laws last few got book history rows there is told_hist
       };
       own = last.own;
       parts = parts;
-      seen = subst (IsFront v.own.book_seen) (sym (told_history ∙ ap (λ (b : ReservedView). b.batches) (sym own))) last.seen;
+      seen = subst (IsPrefix v.own.book_seen) (sym (told_history ∙ ap (λ (b : ReservedView). b.batches) (sym own))) last.seen;
     }
 
 pub reported : (key : Setting) (id k : ℕ) (v : View) (ws : List ℕ) (xs : List Slot) (laws : Laws (job_of key)) → Final (Seen (Shown key) id v) ws xs → v.own.worker ≡ k → v.to ≡ k + 1 → v.saw_done ≡ true

@@ -1,6 +1,6 @@
 -- The facts at the opening of a batch.
 use Rattle.std.proofs.Common.{ℕ, ◌≡◌, ◌==◌, ◌≤◌, ◌<◌, ◌+◌, ◌*◌, ◌^◌, List, [], length, map, None, refl, ap, sym, subst, ◌∙◌, arith}
-use Rattle.launch_batch.proofs.Words.{AllByRecursion, Call, number_of, AreDistinct, ObjectKind, Counter, Stack, Tree, Queue, AreInBatchOrder, AreOneBatch, kind_of, same_kind, calls_of, calls_at, of_counter, Entry, flat, MayServe, AreSame, IsNarrow, Members, Objects, opening, alone, served_book, BatchContext, store_of_kind, MatchesHistory}
+use Rattle.launch_batch.proofs.Words.{AllByRecursion, Call, number_of, AreDistinct, ObjectKind, Counter, Stack, Tree, Queue, AreInBatchOrder, AreOneBatch, kind_of, same_kind, calls_of, calls_at, of_counter, Entry, flat, MayServe, ArePermutations, IsNarrow, Members, Objects, opening, alone, served_book, BatchContext, store_of_kind, MatchesHistory}
 use Rattle.seq_objects.specs.Batches.{AreOf}
 use Rattle.seq_objects.proofs.Filters.{each_filter, are_of}
 use Rattle.object_rows.specs.declared.row.Row.{Row}
@@ -16,12 +16,12 @@ use Rattle.launch_batch.proofs.BatchLemmas.Serial.{total_small}
 pub own_at : (kind : ObjectKind) (number : ℕ) (calls : List Call) → AreOf kind (calls_at number (calls_of kind calls))
 own_at kind number calls = each_filter (λ (call : Call). kind_of call.op ≡ kind) (λ (call : Call). number_of call.op == number) (calls_of kind calls) (are_of kind calls)
 
-pub some_same : (calls ordered : List Call) → AreSame calls ordered → 0 < length calls → 0 < length ordered
+pub some_same : (calls ordered : List Call) → ArePermutations calls ordered → 0 < length calls → 0 < length ordered
 some_same calls ordered same some = let n = length_same calls ordered same in omega (arith, n, some)
 
 -- the calls in order are one batch
 pub one_batch : (calls ordered : List Call) → 0 < length calls → AreDistinct (map (λ (c : Call). c.worker) calls) → AllByRecursion (λ (c : Call). c.worker < 32) calls
-    → AreSame calls ordered → AreInBatchOrder ordered → AreOneBatch ordered
+    → ArePermutations calls ordered → AreInBatchOrder ordered → AreOneBatch ordered
 one_batch calls ordered some workers below same order = record {
   some = some_same calls ordered same some;
   order = order;
@@ -30,7 +30,7 @@ one_batch calls ordered some workers below same order = record {
 }
 
 -- a counter does not overflow
-pub may_add : (book : List (List Entry)) (calls ordered : List Call) (number counter : ℕ) → MayServe book calls → AreSame calls ordered → AllByRecursion IsNarrow ordered
+pub may_add : (book : List (List Entry)) (calls ordered : List Call) (number counter : ℕ) → MayServe book calls → ArePermutations calls ordered → AllByRecursion IsNarrow ordered
     → counter ≤ length (flat book) * 2 ^ 32 → MayAdd (of_counter counter) (calls_at number (calls_of Counter ordered))
 may_add book calls ordered number counter may same narrow room = record {
   adds = own_at Counter number ordered;
@@ -46,7 +46,7 @@ may_add book calls ordered number counter may same narrow room = record {
 }
 
 -- some kind has a call
-pub some_by_kind : (calls ordered : List Call) → AreSame calls ordered → 0 < length calls
+pub some_by_kind : (calls ordered : List Call) → ArePermutations calls ordered → 0 < length calls
     → 0 < length (calls_of Counter ordered) + length (calls_of Stack ordered) + length (calls_of Tree ordered) + length (calls_of Queue ordered)
 some_by_kind calls ordered same some =
     let n = some_same calls ordered same some in

@@ -1,6 +1,6 @@
 -- The entries, the history and the structures at the end of a batch.
 use Rattle.std.proofs.Common.{◌≡◌, List, [], ◌∷◌, ◌++◌, length, sym, ap, subst, ◌∙◌, arith}
-use Rattle.launch_batch.proofs.Words.{AllByRecursion, Call, Reply, Objects, Store, opening_store, store_after_all, store_replies, ObjectKind, Counter, Stack, Tree, Queue, AreInBatchOrder, calls_of, alone, of_counter, of_stack, of_set, of_bag, Entry, flat, IsHistory, served, served_book, calls_in, replies_in, AreSame, IsServiceOf, store_of_kind, MatchesHistory, IsNarrow, left_of, merged_replies}
+use Rattle.launch_batch.proofs.Words.{AllByRecursion, Call, Reply, Objects, Store, opening_store, store_after_all, store_replies, ObjectKind, Counter, Stack, Tree, Queue, AreInBatchOrder, calls_of, alone, of_counter, of_stack, of_set, of_bag, Entry, flat, IsHistory, served, served_book, calls_in, replies_in, ArePermutations, IsServiceOf, store_of_kind, MatchesHistory, IsNarrow, left_of, merged_replies}
 use Rattle.object_rows.specs.declared.row.Row.{Row}
 use Rattle.launch_batch.specs.declared.merge.ReplyCursors.{ReplyCursors}
 use Rattle.launch_batch.specs.declared.structures.Structures.{Structures}
@@ -32,7 +32,7 @@ module _ (structures : Structures) (book : List (List Entry)) (ordered : List Ca
   module _ (entries : List Entry) (calls : calls_in entries ≡ ordered) where
     pub service : replies_in entries ≡ merged_replies ordered replies → IsServiceOf book given entries
     service told = record {
-      same = subst (AreSame given) (sym calls) r.given.same;
+      same = subst (ArePermutations given) (sym calls) r.given.same;
       order = subst AreInBatchOrder (sym calls) r.given.order;
       replies = legal_is (served_book book) entries (told ∙ replies_are ∙ ap (store_replies (served_book book)) (sym calls));
     }

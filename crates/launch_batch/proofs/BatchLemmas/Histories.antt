@@ -2,7 +2,7 @@
 use Rattle.std.proofs.Common.{ℕ, ◌≡◌, ◌≢◌, ◌<◌, ◌+◌, ◌^◌, List, [], ◌∷◌, ◌++◌, length, map, arith, refl, sym, ap, subst, ◌∙◌, append-nil, append_assoc, length-append}
 use Rattle.std.proofs.lemmas.List.{length-map}
 use Rattle.std.proofs.lemmas.Simd.{map-map}
-use Rattle.launch_batch.proofs.Words.{AllByRecursion, Call, Store, opening_store, store_after, EachPair, AreDistinct, Entry, flat, IsLegalFrom, IsBatch, IsHistory, served, call_in, calls_in, MayServe, IsServiceOf, IsNarrow}
+use Rattle.launch_batch.proofs.Words.{AllByRecursion, Call, Store, opening_store, store_after, AllPairsByRecursion, AreDistinct, Entry, flat, IsLegalFrom, IsBatch, IsHistory, served, call_in, calls_in, MayServe, IsServiceOf, IsNarrow}
 use Rattle.seq_objects.specs.BatchOrder.{ComesFirst}
 use Rattle.seq_objects.proofs.Elements.{each_append}
 use Rattle.launch_batch.proofs.ListLemmas.Elements.{each_mapped, each_unmapped, distinct_append, apart_turned, map_append}
@@ -20,7 +20,7 @@ legal_append : (store : Store) (xs ys : List Entry) → IsLegalFrom store xs →
 legal_append store [] ys h g = g
 legal_append store (e ∷ xs) ys h g = (h.0, legal_append (store_after store e.op) xs ys h.1 g)
 
-pairs_unmapped : {A B : Type 0} (f : A → B) (R : B → B → Type 0) (xs : List A) → EachPair R (map f xs) → EachPair (λ a b. R (f a) (f b)) xs
+pairs_unmapped : {A B : Type 0} (f : A → B) (R : B → B → Type 0) (xs : List A) → AllPairsByRecursion R (map f xs) → AllPairsByRecursion (λ a b. R (f a) (f b)) xs
 pairs_unmapped f R [] h = tt
 pairs_unmapped f R (x ∷ xs) h = (each_unmapped f (R (f x)) xs h.0, pairs_unmapped f R xs h.1)
 

@@ -1,6 +1,6 @@
 -- Outs of pieces run in any order, put back at the places of their pieces.
 use Rattle.std.proofs.Common.{ℕ, ◌≡◌, ◌<◌, inl, inr, List, [], ◌∷◌, map, refl, sym, ap, subst, ◌∙◌, arith}
-use Rattle.launch_batch.proofs.Words.{AllByRecursion, AllMeet, PieceIn, PieceOut, AreSame, Run, Meets, place_of, IsOutAt, ArePutBack}
+use Rattle.launch_batch.proofs.Words.{AllByRecursion, AllMeet, PieceIn, PieceOut, ArePermutations, Run, Meets, place_of, IsOutAt, ArePutBack}
 use Rattle.key_sets.specs.Keys.{StrictlyAscends}
 use Rattle.seq_objects.proofs.Elements.{each_so}
 use Rattle.launch_batch.proofs.ListLemmas.Elements.{each_unmapped}
@@ -42,7 +42,7 @@ put_back ins (input ∷ rest) runs (out ∷ outs) up there among met at =
     let one : f.0 ≡ input = by_place ins f.0 input up f.1 there.0 f.2 in
     (subst (λ i. Meets i out) one f.3, put_back ins rest runs outs up there.1 among met at.1)
 
-pub all_meet : (ins : List PieceIn) (runs : List Run) (outs : List PieceOut) → StrictlyAscends (map place_of ins) → AreSame ins (map (λ (run : Run). run.input) runs)
+pub all_meet : (ins : List PieceIn) (runs : List Run) (outs : List PieceOut) → StrictlyAscends (map place_of ins) → ArePermutations ins (map (λ (run : Run). run.input) runs)
     → AllByRecursion (λ (run : Run). Meets run.input run.out) runs → ArePutBack runs (map place_of ins) outs → AllMeet Meets ins outs
 all_meet ins runs outs up same met at =
     let among = each_unmapped (λ (run : Run). run.input) (λ input. Among input ins) runs (each_same (λ input. Among input ins) ins (map (λ (run : Run). run.input) runs) same (all_among ins)) in
@@ -62,7 +62,7 @@ outs_of_each (input ∷ rest) runs each =
     let more = outs_of_each rest runs each.1 in
     (first.0 ∷ more.0, (first.1, more.1))
 
-pub some_outs : (ins : List PieceIn) (runs : List Run) → AreSame ins (map (λ (run : Run). run.input) runs) → (outs : List PieceOut) × ArePutBack runs (map place_of ins) outs
+pub some_outs : (ins : List PieceIn) (runs : List Run) → ArePermutations ins (map (λ (run : Run). run.input) runs) → (outs : List PieceOut) × ArePutBack runs (map place_of ins) outs
 some_outs ins runs same =
     let inputs = map (λ (run : Run). run.input) runs in
     outs_of_each ins runs (each_so (λ input. Among input ins) (λ input. Among input inputs) (λ input there. among_same ins inputs same input there) ins (all_among ins))

@@ -1,6 +1,6 @@
 -- Membership in a list, and in a permutation of it.
 use Rattle.std.proofs.Common.{◌≡◌, ◌⊎◌, inl, inr, List, [], ◌∷◌, ◌++◌, refl, sym, subst}
-use Rattle.launch_batch.proofs.Words.{AllByRecursion, AreSame}
+use Rattle.launch_batch.proofs.Words.{AllByRecursion, ArePermutations}
 use Rattle.seq_objects.proofs.Elements.{each_so}
 use Rattle.launch_batch.proofs.ListLemmas.Same.{each_same}
 
@@ -32,7 +32,7 @@ among_between x y (z ∷ before) later there = elim there [
 ]
 
 -- a member of a list is a member of each permutation of it
-pub among_same : {X : Type 0} (xs others : List X) → AreSame xs others → (x : X) → Among x xs → Among x others
+pub among_same : {X : Type 0} (xs others : List X) → ArePermutations xs others → (x : X) → Among x xs → Among x others
 among_same [] others same x there = absurd there
 among_same (y ∷ xs) others same x there =
     let before = same.0 in
@@ -43,5 +43,5 @@ among_same (y ∷ xs) others same x there =
     ])
 
 -- the converse
-pub same_among : {X : Type 0} (xs others : List X) → AreSame xs others → (x : X) → Among x others → Among x xs
+pub same_among : {X : Type 0} (xs others : List X) → ArePermutations xs others → (x : X) → Among x others → Among x xs
 same_among xs others same x there = each_among (λ y. Among y xs) others x (each_same (λ y. Among y xs) xs others same (all_among xs)) there

@@ -4,7 +4,7 @@ use Rattle.std.specs.Option.{ForSome, option_map}
 use Rattle.seq_objects.specs.Objects.{value_of}
 use Rattle.seq_objects.specs.declared.act.Act.{Act}
 use Rattle.seq_objects.specs.declared.op.Op.{Op}
-use Rattle.seq_objects.specs.Pairs.{HasEachOnce}
+use Rattle.seq_objects.specs.Pairs.{IsEnumerationOf}
 use Rattle.sp_order.specs.Jobs.{JobValue}
 use Rattle.sp_order.specs.Sources.{IsCallLeaf, with_value}
 use Rattle.batch_history.specs.Operations.{act_of, op_in, source_of}
@@ -57,7 +57,7 @@ pub record IsServed (job : JobValue) (values : List (Option ℕ)) (rows : List R
 -- The entries are of leaves that call, each once, and these are their values: what a leaf's entry replied.
 pub record AreValuesOf (acts : List Act) (entries : List Entry) (values : List (Option ℕ)) : Type 0 where
   pub as_many : length values ≡ length acts
-  pub once : HasEachOnce (IsCallLeaf acts) (map (λ entry. entry.leaf) entries)
+  pub once : IsEnumerationOf (IsCallLeaf acts) (map (λ entry. entry.leaf) entries)
   pub each : (leaf : ℕ) → slice_index_or values leaf None ≡ value_in entries leaf
 
 -- the row of the entry's leaf has the value of its reply

@@ -44,7 +44,7 @@ use Rattle.table_rule.specs.Laws.{Laws}
 use Rattle.table_rule.specs.Steps.{ShowsOne, StepRefines, TryMakes, MakesEvent, MakesLeave}
 use Rattle.table_rule.specs.Tasks.{job_seen}
 use Rattle.table_rule.proofs.StepLemmas.NextActs.{MayPost}
-use Rattle.table_rule.specs.Shows.{reserved, TableState, SlotHome, IsFront, IsRecordOf, RecordAt, ShopAt, IsBookHome, BookIf, BookAt, took_in, record_in, among, hold_of, HoldKnown, entry_of, Shows}
+use Rattle.table_rule.specs.Shows.{reserved, TableState, SlotHome, IsPrefix, IsRecordOf, RecordAt, ShopAt, IsBookHome, BookIf, BookAt, took_in, record_in, among, hold_of, HoldKnown, entry_of, Shows}
 use Rattle.table_rule.specs.Passes as W
 use Rattle.table_rule.specs.Views as V
 use Rattle.table_rule.specs.Plays as G
@@ -303,10 +303,10 @@ module _ (job : CoreJob) (room : ℕ) (laws : Laws job) (slots id : ℕ) (v : Vi
         ((λ _. (none_held job s k v.own.hold m.1.hold open_, s.book, ap (λ (r : ℕ). (V.with_step (W.winning s.book) v, (P, Slots.Shop s.book) ∷ (P + 1, Slots.Book (reserved s.book r)) ∷ xs)) (sym roomy), m.1.seen)), (λ ne. absurd (ne zero)), ap flag_at (sym sized)),
       ))
       (λ ne. (
-        V.with_found word W.losing v,
+        V.with_found word W.refusing_win v,
         keeps,
         tt,
-        missed word 0 (MakesEvent job k Win) ne (looked job room t o id k P v (V.with_found word W.losing v) me from to from to refl refl (λ h. inl h)
+        missed word 0 (MakesEvent job k Win) ne (looked job room t o id k P v (V.with_found word W.refusing_win v) me from to from to refl refl (λ h. inl h)
             (λ own. record { sits = own.sits; task = own.task; call = own.call; posted = own.posted; told = own.told; entries = own.entries; hold = own.hold; new = own.new; done = own.done; seen = own.seen; since = record { most = own.since.most; early = own.since.early; late = own.since.late; placed = own.since.placed; waits = own.since.waits } })),
         ((λ zero. absurd (ne zero)), (λ _. refl), ap flag_at (sym sized)),
       ))
@@ -371,10 +371,10 @@ module _ (job : CoreJob) (room : ℕ) (laws : Laws job) (slots id : ℕ) (v : Vi
         ),
       ))
       (λ ne. (
-        V.with_found word W.staying v,
+        V.with_found word W.refusing_leave v,
         keeps,
         tt,
-        missed word 3 (MakesLeave job k) ne (looked job room t o id k k v (V.with_found word W.staying v) me from to from to refl refl (λ h. inl h)
+        missed word 3 (MakesLeave job k) ne (looked job room t o id k k v (V.with_found word W.refusing_leave v) me from to from to refl refl (λ h. inl h)
             (λ own. record { sits = own.sits; task = own.task; call = own.call; posted = own.posted; told = own.told; entries = own.entries; hold = own.hold; new = own.new; done = own.done; seen = own.seen; since = record { most = own.since.most; early = own.since.early; late = own.since.late; placed = own.since.placed; waits = own.since.waits } })),
         ((λ three. absurd (ne three)), (λ _. refl), sym from),
       ))
@@ -449,7 +449,7 @@ module _ (job : CoreJob) (room : ℕ) (laws : Laws job) (slots id : ℕ) (v : Vi
       let other_status : is_pending (s.status u) ≡ false = other_word (s.status u) (λ e. ne (o.words.statuses u low ∙ e)) in
       let f = W.after_pass word in
       let h' = f h in
-      let w : View = V.with_found word (W.passing u word) v in
+      let w : View = V.with_found word (W.skipping u word) v in
       let new : State = record s { hold = Some (hold_of k h') } in
       let happens : Happens job s k (Take u) new = record { worker_in = m.0; needs = (hold_of k h, (held, refl), next, low); does = take_passes s k u h word held other_status } in (
         w,
@@ -528,7 +528,7 @@ module _ (job : CoreJob) (room : ℕ) (laws : Laws job) (slots id : ℕ) (v : Vi
       let held : s.hold ≡ Some (hold_of k h) = known.0 in
       let w : View = V.with_step W.releasing v in
       let told : View = record w { own = record w.own { book_seen = v.own.book_seen } } in
-      let front : IsFront (W.book_after v.own.hold v.own.book_seen) s.book = subst (λ (z : Maybe HoldView). IsFront (W.book_after z v.own.book_seen) s.book) (sym holds) ([], known.1 ∙ sym (append-nil h.book)) in
+      let front : IsPrefix (W.book_after v.own.hold v.own.book_seen) s.book = subst (λ (z : Maybe HoldView). IsPrefix (W.book_after z v.own.book_seen) s.book) (sym holds) ([], known.1 ∙ sym (append-nil h.book)) in
       let gone : Maybe Hold = None in
       let new : State = record s { hold = gone } in
       let happens : Happens job s k Release new = record { worker_in = m.0; needs = (hold_of k h, (held, refl), looked_all, all); does = refl } in

@@ -29,7 +29,7 @@ use Rattle.table_rule.specs.declared.slot.Slot.TheVariants as Slots
 use Rattle.table_rule.specs.Words.{stop_at, count_at, WordsShow}
 use Rattle.table_rule.specs.Laws.{Laws}
 use Rattle.table_rule.specs.Steps.{StepRefines, Stutters, MakesEvent}
-use Rattle.table_rule.specs.Shows.{reserved, SlotHome, IsRecordOf, RecordAt, ShopAt, record_in, among, hold_of, HoldKnown, entry_of, present, SinceKnown, IsFront, AgreesWithView}
+use Rattle.table_rule.specs.Shows.{reserved, SlotHome, IsRecordOf, RecordAt, ShopAt, record_in, among, hold_of, HoldKnown, entry_of, present, SinceKnown, IsPrefix, AgreesWithView}
 use Rattle.table_rule.specs.Batches.{call_of, ServesTaken, IsPublishDue}
 use Rattle.table_rule.specs.Passes as W
 use Rattle.table_rule.specs.Views as V
@@ -49,7 +49,7 @@ place_same : (a b : Place) (o : Maybe Place) → o ≡ Some a → o ≡ Some b �
 place_same a b o e f = cc
 
 -- a prefix of a book is a prefix of a longer one
-longer : (xs ys : List (List Entry)) (batch : List Entry) → IsFront xs ys → IsFront xs (ys ++ batch ∷ [])
+longer : (xs ys : List (List Entry)) (batch : List Entry) → IsPrefix xs ys → IsPrefix xs (ys ++ batch ∷ [])
 longer xs ys batch h = (h.0 ++ batch ∷ [], ap (λ l. l ++ batch ∷ []) h.1 ∙ append_assoc xs h.0 (batch ∷ []))
 
 -- a call is its leaf's under a longer book too

@@ -20,7 +20,7 @@ use Rattle.table_rule.specs.declared.view.View.{View}
 use Rattle.table_rule.specs.declared.slot.Slot.{Slot}
 use Rattle.table_rule.specs.declared.slot.Slot.TheVariants as Slots
 use Rattle.table_rule.specs.Laws.{Laws}
-use Rattle.table_rule.specs.Shows.{SlotHome, IsFront, IsRecordOf, IsTold, RecordAt, ShopAt, BookAt, SlotsShow, hold_of, HoldKnown, AgreesWithView}
+use Rattle.table_rule.specs.Shows.{SlotHome, IsPrefix, IsRecordOf, IsTold, RecordAt, ShopAt, BookAt, SlotsShow, hold_of, HoldKnown, AgreesWithView}
 use Rattle.table_rule.proofs.TableLemmas.Words.{put_at, put_other}
 use Rattle.table_rule.proofs.TableLemmas.Facts.{is_trapped}
 
@@ -64,7 +64,7 @@ reseat job s home seat seat' id id' v w x sits told hold m = record {
 }
 
 -- and for a view that has seen more of the book
-pub reseen : (job : CoreJob) (s : State) (home : SlotHome) (seat id : ℕ) (v : View) (x : ℕ) (book : List (List Entry)) → IsFront book s.book → AgreesWithView job s home seat id v x → AgreesWithView job s home seat id (record v { own = record v.own { book_seen = book } }) x
+pub reseen : (job : CoreJob) (s : State) (home : SlotHome) (seat id : ℕ) (v : View) (x : ℕ) (book : List (List Entry)) → IsPrefix book s.book → AgreesWithView job s home seat id v x → AgreesWithView job s home seat id (record v { own = record v.own { book_seen = book } }) x
 reseen job s home seat id v x book front m = record {
   sits = m.sits;
   task = m.task;

@@ -17,7 +17,7 @@ use Rattle.table_rule.specs.declared.slot.OpRecord.{OpRecord}
 use Rattle.table_rule.specs.declared.view.HoldView.{HoldView}
 use Rattle.table_rule.specs.declared.view.View.{View}
 use Rattle.table_rule.specs.Batches.{IsPublishDue, IsReleaseDue}
-use Rattle.table_rule.specs.Passes.{call_by, in_hold, after_take, after_pass, after_publish, after_answer, taking, passing, publishing, answering}
+use Rattle.table_rule.specs.Passes.{call_by, in_hold, after_take, after_pass, after_publish, after_answer, taking, skipping, publishing, answering}
 use Rattle.table_rule.specs.Plays.{IsNewCall}
 use Rattle.table_rule.specs.Shows.{record_in, among}
 use Rattle.table_rule.specs.Views.{with_step, with_found}
@@ -90,7 +90,7 @@ module _ (t : CoreTable) (node n : ℕ) (before : List (List Entry)) (calls : Li
         }
 
     -- a look that takes none
-    pub flag_passed : (seen : ℕ) → view q ≡ with_found seen (passing n seen) (view p) → HasFlag t node before (n + 1) calls q
+    pub flag_passed : (seen : ℕ) → view q ≡ with_found seen (skipping n seen) (view p) → HasFlag t node before (n + 1) calls q
     flag_passed seen now = record {
       own = own;
       start = f.start;

@@ -24,7 +24,7 @@ ends_of_made n room w thieves all e h lt at =
         pushes = fresh.2 k;
         empty_pops = fresh.3 k;
         stolen = reached.1 k;
-        fruitless_steals = reached.2 k;
+        failed_steals = reached.2 k;
       },
     )
 

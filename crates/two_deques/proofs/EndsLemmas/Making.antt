@@ -84,11 +84,11 @@ module _ {T : Type 0} where
   pub next_reached_by : (k n room : ℕ) (thieves seen : List (Thief T)) (all : List (Ends T)) (e v : Ends T)
       → AreMade k n room thieves all → k < n → e ≡ get_or all k e → v.own ≡ e.own → v.empty_pops ≡ e.empty_pops
       → seen ≡ thieves → ReachEach seen v.reaches.items → (held_ends v).stolen ≡ replicate (length seen) []
-      → (held_ends v).fruitless_steals ≡ replicate (length seen) 0 → AreMade (k + 1) n room thieves (set all k v)
-  next_reached_by k n room thieves seen all e v h lt at own_same pops_same same each stolen fruitless_steals =
+      → (held_ends v).failed_steals ≡ replicate (length seen) 0 → AreMade (k + 1) n room thieves (set all k v)
+  next_reached_by k n room thieves seen all e v h lt at own_same pops_same same each stolen failed_steals =
       let count : length seen ≡ n = ap length same ∙ h.thieves_count in
       next_reached k n room thieves all e v h lt at own_same pops_same (
         subst (λ (l : List (Thief T)). ReachEach l v.reaches.items) same each,
         stolen ∙ ap (λ m. replicate m []) count,
-        fruitless_steals ∙ ap (λ m. replicate m 0) count,
+        failed_steals ∙ ap (λ m. replicate m 0) count,
       )

@@ -8,7 +8,7 @@ use Rattle.crossbeam_deque.specs.Handles.{IsPassOf, stealer_deque}
 use Rattle.two_deques.specs.declared.ends.Reach.{Reach}
 use Rattle.two_deques.specs.Rule.{FoundAtMost}
 use Rattle.two_deques.specs.Reaches.{Thief, ReachEach}
-use Rattle.two_deques.specs.Ends.{HeldEnds, stolen_there, risen, after_steal, after_fruitless_steal}
+use Rattle.two_deques.specs.Ends.{HeldEnds, stolen_there, risen, after_steal, after_failed_steal}
 
 module _ {T : Type 0} where
   pub reaches_kept : (thieves : List (Thief T)) (rs : List (Reach T)) (i : ℕ) (t : Thief T) (w : Reach T)
@@ -33,7 +33,7 @@ module _ {T : Type 0} where
     pushes = pushes;
     empty_pops = empty_pops;
     stolen = map stolen_there rs;
-    fruitless_steals = map (λ reach. reach.fruitless_steals) rs;
+    failed_steals = map (λ reach. reach.failed_steals) rs;
   }
 
   stolen_more : (rs : List (Reach T)) (i : ℕ) (r w : Reach T) (xs : List T) → i < length rs → r ≡ get_or rs i r
@@ -49,34 +49,34 @@ module _ {T : Type 0} where
   part_same f rs i r w inside at same = map-set_same f rs i w r (same ∙ ap f at)
 
   one_more : (rs : List (Reach T)) (i : ℕ) (r w : Reach T) → i < length rs → r ≡ get_or rs i r
-      → w.fruitless_steals ≡ risen r.fruitless_steals
-      → map (λ reach. reach.fruitless_steals) (set rs i w)
-      ≡ set (map (λ reach. reach.fruitless_steals) rs) i (risen (get_or (map (λ reach. reach.fruitless_steals) rs) i 0))
+      → w.failed_steals ≡ risen r.failed_steals
+      → map (λ reach. reach.failed_steals) (set rs i w)
+      ≡ set (map (λ reach. reach.failed_steals) rs) i (risen (get_or (map (λ reach. reach.failed_steals) rs) i 0))
   one_more rs i r w inside at more =
-      let count : Reach T → ℕ = λ reach. reach.fruitless_steals in
+      let count : Reach T → ℕ = λ reach. reach.failed_steals in
       map-set count rs i w
       ∙ ap (λ n. set (map count rs) i n) (more ∙ ap risen (sym (get_or-map count rs i r 0 inside ∙ ap count (sym at))))
 
   pub then_stolen : (own : List T) (pushes empty_pops : ℕ) (rs : List (Reach T)) (i : ℕ) (r w : Reach T) (o : Option T)
       → i < length rs → r ≡ get_or rs i r
-      → IfSome o (λ x. (stolen_there w ≡ stolen_there r ++ x ∷ []) × (w.fruitless_steals ≡ r.fruitless_steals))
+      → IfSome o (λ x. (stolen_there w ≡ stolen_there r ++ x ∷ []) × (w.failed_steals ≡ r.failed_steals))
       → IfSome o (λ x. with_reaches own pushes empty_pops (set rs i w) ≡ after_steal i x (with_reaches own pushes empty_pops rs))
   then_stolen own pushes empty_pops rs i r w None inside at h = h
   then_stolen own pushes empty_pops rs i r w (Some x) inside at h =
       let more = stolen_more rs i r w (x ∷ []) inside at h.0 in
-      let same = part_same (λ (reach : Reach T). reach.fruitless_steals) rs i r w inside at h.1 in
-      λ k. record { own = own; pushes = pushes; empty_pops = empty_pops; stolen = more k; fruitless_steals = same k }
+      let same = part_same (λ (reach : Reach T). reach.failed_steals) rs i r w inside at h.1 in
+      λ k. record { own = own; pushes = pushes; empty_pops = empty_pops; stolen = more k; failed_steals = same k }
 
   pub then_nothing : (own : List T) (pushes empty_pops : ℕ) (rs : List (Reach T)) (i : ℕ) (r w : Reach T) (o : Option T)
       → i < length rs → r ≡ get_or rs i r
-      → IfNone o ((stolen_there w ≡ stolen_there r) × (w.fruitless_steals ≡ risen r.fruitless_steals))
+      → IfNone o ((stolen_there w ≡ stolen_there r) × (w.failed_steals ≡ risen r.failed_steals))
       → IfNone o (with_reaches own pushes empty_pops (set rs i w)
-      ≡ after_fruitless_steal i (with_reaches own pushes empty_pops rs))
+      ≡ after_failed_steal i (with_reaches own pushes empty_pops rs))
   then_nothing own pushes empty_pops rs i r w (Some x) inside at h = h
   then_nothing own pushes empty_pops rs i r w None inside at h =
       let same = part_same stolen_there rs i r w inside at h.0 in
       let more = one_more rs i r w inside at h.1 in
-      λ k. record { own = own; pushes = pushes; empty_pops = empty_pops; stolen = same k; fruitless_steals = more k }
+      λ k. record { own = own; pushes = pushes; empty_pops = empty_pops; stolen = same k; failed_steals = more k }
 
   pub then_few : (rs : List (Reach T)) (i : ℕ) (r : Reach T) (o : Option T)
       → i < length rs → r ≡ get_or rs i r → IfNone o (FoundAtMost 1 false (stolen_there r))

@@ -13,7 +13,7 @@ IsNew room e = (room ≤ worker_capacity e.own) × ((held_ends e).own ≡ []) ×
 -- there is a reach into each deque, by which nothing was stolen or tried in vain; there are `n` of them
 abbrev pub HasReaches : {T : Type 0} → ℕ → List (Thief T) → Ends T → Type 0
 HasReaches n thieves e = ReachEach thieves e.reaches.items × ((held_ends e).stolen ≡ replicate n [])
-    × ((held_ends e).fruitless_steals ≡ replicate n 0)
+    × ((held_ends e).failed_steals ≡ replicate n 0)
 
 -- the new ends of `n` workers; those of the first `k` already have their reaches
 pub record AreMade {T : Type 0} (k n room : ℕ) (thieves : List (Thief T)) (all : List (Ends T))

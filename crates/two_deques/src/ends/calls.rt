@@ -6,7 +6,7 @@ ghost use Rattle.crossbeam_deque.specs.Handles.{SameWorker, worker_capacity};
 ghost use Rattle.two_deques.specs.Rule.{FoundAtMost};
 ghost use Rattle.two_deques.specs.Reaches.{ReachEach};
 ghost use Rattle.two_deques.specs.Ends.{held_ends, risen, after_push, with_newest, after_empty_pop};
-ghost use Rattle.two_deques.specs.Ends.{after_steal, after_fruitless_steal, WasEmpty, HadAtMostOne};
+ghost use Rattle.two_deques.specs.Ends.{after_steal, after_failed_steal, WasEmpty, HadAtMostOne};
 
 use crate::ends::{Ends, Reach};
 use crate::rule::{DequeRule, Part, Popped, Pushed, Stolen};
@@ -33,16 +33,16 @@ impl<T: Drop> Reach<T> {
         ensures pass { IsPassOf (stealer_deque thief.now) self.new.pass }
         ensures some { IfSome result (λ x.
             ((view self.new.pass).tasks ≡ (view self.old.pass).tasks ++ x ∷ [])
-            × (self.new.fruitless_steals ≡ self.old.fruitless_steals)) }
+            × (self.new.failed_steals ≡ self.old.failed_steals)) }
         ensures none { IfNone result (((view self.new.pass).tasks ≡ (view self.old.pass).tasks)
-            × (self.new.fruitless_steals ≡ risen self.old.fruitless_steals)) }
+            × (self.new.failed_steals ≡ risen self.old.failed_steals)) }
         ensures cause { IfNone result (FoundAtMost 1 false (view self.old.pass).tasks) }
     {
         for _ in rt.forever() {
             match thief.steal_as::<Stolen>(&mut self.pass) {
                 Steal::Success(task) => return Some(task),
                 Steal::Empty => {
-                    self.fruitless_steals = rise(self.fruitless_steals);
+                    self.failed_steals = rise(self.failed_steals);
                     return None;
                 }
                 Steal::Retry => {}
@@ -92,7 +92,7 @@ impl<T: Drop> Ends<T> {
         ensures some { IfSome result (λ x.
             held_ends self.new ≡ after_steal victim x (held_ends self.old)) }
         ensures none { IfNone result
-            (held_ends self.new ≡ after_fruitless_steal victim (held_ends self.old)) }
+            (held_ends self.new ≡ after_failed_steal victim (held_ends self.old)) }
         ensures cause { IfNone result (HadAtMostOne victim (held_ends self.old)) }
         ensures same { self.new.own ≡ self.old.own }
     {

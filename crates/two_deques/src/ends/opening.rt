@@ -32,14 +32,14 @@ fn own_ends<T: Drop>(alloc: Global, room: usize) -> Result<Ends<T>, AllocError>
 fn reaches_into<T: Drop>(alloc: Global, thieves: &[Thief<T>]) -> Result<Vec<Reach<T>>, AllocError>
     ensures each { IfOk result (λ v. ReachEach thieves.now v.items) }
     ensures stolen { IfOk result (λ v. map stolen_there v.items ≡ replicate (length thieves.now) []) }
-    ensures fruitless { IfOk result (λ v. map (λ reach. reach.fruitless_steals) v.items
+    ensures failed { IfOk result (λ v. map (λ reach. reach.failed_steals) v.items
         ≡ replicate (length thieves.now) 0) }
 {
     let mut reaches = Vec::new(alloc);
     for i in 0..thieves.len() {
         reaches.push(Reach {
             pass: thieves[i].pass(),
-            fruitless_steals: 0,
+            failed_steals: 0,
         })?;
     }
     Ok(reaches)

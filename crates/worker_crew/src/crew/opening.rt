@@ -49,7 +49,7 @@ fn opening(decks: &Decks, hand: Hand) -> Result<Hand, AllocError>
 }
 
 /// The workers' initial states, indexed by worker.
-fn mes_of<G: Pause>(
+fn make_workers<G: Pause>(
     alloc: Global,
     crew: &Crew<G>,
     passes: Vec<Pass>,
@@ -117,7 +117,7 @@ impl<'a, G: Pause> Crew<'a, G> {
             workers,
             pause,
         };
-        let mes = mes_of(alloc, &crew, passes, hands, desks)?;
+        let mes = make_workers(alloc, &crew, passes, hands, desks)?;
         Ok((crew, mes))
     }
 }

@@ -7,8 +7,8 @@ use Rattle.two_deques.specs.Ends.{HeldEnds, after_push}
 use Rattle.worker_crew.specs.Words.{Event, Task, CallState, Receipt}
 use Rattle.table_rule.specs.declared.view.PassView.{PassView}
 use Rattle.table_rule.specs.Passes.{opening, with_task}
-use Rattle.table_rule.specs.Shows.{IsFront}
-use Rattle.worker_crew.specs.Workers.{MeSeen}
+use Rattle.table_rule.specs.Shows.{IsPrefix}
+use Rattle.worker_crew.specs.Workers.{WorkerView}
 use Rattle.worker_turns.specs.Pieces.{Desk, DrainsRow}
 use Rattle.worker_turns.specs.declared.trapped.Trapped.{Trapped}
 use Rattle.worker_turns.specs.declared.trapped.Trapped.TheVariants.{Left, Piece, Launched, Nothing}
@@ -34,10 +34,10 @@ helps_then a b c v w = record {
 pub helps_works : (a b : Desk) → DrainsRow 0 a b → Helps a b
 helps_works a b w = record { given = w.given; gave = ap (λ (d : Desk). d.given) w.is; finishes = ap (λ (d : Desk). d.finishes) w.is }
 
-pub front_none : {A : Type 0} (xs ys : List A) → ys ≡ xs → IsFront xs ys
+pub front_none : {A : Type 0} (xs ys : List A) → ys ≡ xs → IsPrefix xs ys
 front_none xs ys is = ([], is ∙ sym (append-nil _))
 
-pub front_then : {A : Type 0} (xs ys zs : List A) → IsFront xs ys → IsFront ys zs → IsFront xs zs
+pub front_then : {A : Type 0} (xs ys zs : List A) → IsPrefix xs ys → IsPrefix ys zs → IsPrefix xs zs
 front_then xs ys zs p q = (p.0 ++ q.0, q.1 ∙ ap (λ l. l ++ q.0) p.1 ∙ append_assoc xs p.0 q.0)
 
 -- the job of a pass over two steps
@@ -66,7 +66,7 @@ core_none a b is =
     is ∙ (λ i. record a { own = sym (append-nil a.own) i; pushes = none i })
 
 -- a step that opens nothing
-pub carried_call : (old new : MeSeen) → IsJobSame old.pass new.pass → IsFront old.pass.book_seen new.pass.book_seen → old.pass.stop_looks < new.pass.stop_looks → IsFront old.pass.events new.pass.events
+pub carried_call : (old new : WorkerView) → IsJobSame old.pass new.pass → IsPrefix old.pass.book_seen new.pass.book_seen → old.pass.stop_looks < new.pass.stop_looks → IsPrefix old.pass.events new.pass.events
     → new.core ≡ old.core → Helps old.desk new.desk → RanToIdle old new
 carried_call old new job longer looked events core desk = record {
   nodes = [];
@@ -84,7 +84,7 @@ carried_call old new job longer looked events core desk = record {
   desk = desk;
 }
 
-pub carried_step : (old new : MeSeen) (task : Task) (call : CallState) (told : Option ℕ) (events : List Event) → new.pass ≡ record old.pass { task = task; call = call; told = told; events = old.pass.events ++ events } → new.core ≡ old.core → new.desk ≡ old.desk → RanToIdle old new
+pub carried_step : (old new : WorkerView) (task : Task) (call : CallState) (told : Option ℕ) (events : List Event) → new.pass ≡ record old.pass { task = task; call = call; told = told; events = old.pass.events ++ events } → new.core ≡ old.core → new.desk ≡ old.desk → RanToIdle old new
 carried_step old new task call told events is core desk = record {
   nodes = [];
   opened = ap (λ (p : PassView). p.opened) is ∙ sym (append-nil _);
@@ -102,7 +102,7 @@ carried_step old new task call told events is core desk = record {
 }
 
 -- a step that opens a node, which is pushed on the own deque
-pub carried_open : (old new : MeSeen) (node : ℕ) (event : Event) (task : Task) → new.pass ≡ opening node event task old.pass → new.core ≡ after_push node old.core → new.desk ≡ old.desk → RanToIdle old new
+pub carried_open : (old new : WorkerView) (node : ℕ) (event : Event) (task : Task) → new.pass ≡ opening node event task old.pass → new.core ≡ after_push node old.core → new.desk ≡ old.desk → RanToIdle old new
 carried_open old new node event task is core desk = record {
   nodes = node ∷ [];
   opened = ap (λ (p : PassView). p.opened) is;
@@ -126,11 +126,11 @@ arrived false old new first second s t one two = (first, s, one refl)
 arrived true old new first second s t one two = (second, t, two refl)
 
 -- a call's events follow those before it
-pub front_called : (receipt : Receipt) (old new : PassView) → HasCalled receipt old new → IsFront old.events new.events
+pub front_called : (receipt : Receipt) (old new : PassView) → HasCalled receipt old new → IsPrefix old.events new.events
 front_called receipt old new (node, start, between, task, is) = (_, is)
 
 -- a call from its post to its leave
-pub called : (receipt : Receipt) (old mid new : PassView) (node start : ℕ) → old.task ≡ Started node start → IsFront (old.events ++ Post node start ∷ []) mid.events
+pub called : (receipt : Receipt) (old mid new : PassView) (node start : ℕ) → old.task ≡ Started node start → IsPrefix (old.events ++ Post node start ∷ []) mid.events
     → new.events ≡ mid.events ++ Leave receipt ∷ [] → HasCalled receipt old new
 called receipt old mid new node start task (between, is) last = (
   node,
@@ -141,11 +141,11 @@ called receipt old mid new node start task (between, is) last = (
       ∙ append_assoc old.events (Post node start ∷ []) (between ++ Leave receipt ∷ []),
 )
 
-pub carried_none : (old : MeSeen) → RanToIdle old old
+pub carried_none : (old : WorkerView) → RanToIdle old old
 carried_none old = carried_step old old old.pass.task old.pass.call old.pass.told [] (λ i. record old.pass { events = sym (append-nil old.pass.events) i }) refl refl
 
 -- steps after steps
-pub carried_then : (a b c : MeSeen) → RanToIdle a b → RanToIdle b c → RanToIdle a c
+pub carried_then : (a b c : WorkerView) → RanToIdle a b → RanToIdle b c → RanToIdle a c
 carried_then a b c v w = record {
   nodes = v.nodes ++ w.nodes;
   opened = w.opened ∙ ap (λ l. l ++ w.nodes) v.opened ∙ append_assoc a.pass.opened v.nodes w.nodes;

@@ -3,7 +3,7 @@ use Rattle.std.proofs.Common.{ℕ, zero, suc, ◌≡◌, ◌≢◌, ◌<◌, ◌
 use Rattle.std.specs.Prelude.{Contains, slice_get}
 use Rattle.std.specs.List.{AllByRecursion}
 use Rattle.seq_objects.specs.BatchOrder.{ComesFirst}
-use Rattle.seq_objects.specs.Pairs.{EachPair, AreDistinct}
+use Rattle.seq_objects.specs.Pairs.{AllPairsByRecursion, AreDistinct}
 use Rattle.seq_objects.proofs.Elements.{each_so}
 use Rattle.launch_batch.specs.Calls.{MayServe, IsServiceOf}
 use Rattle.launch_batch.proofs.ListLemmas.Elements.{each_unmapped}
@@ -33,8 +33,8 @@ leaves_same [] = refl
 leaves_same (e ∷ batch) = ap (λ l. e.leaf ∷ l) (leaves_same batch)
 
 -- the batch order of entries is that of their calls
-order_same : (batch : List Entry) → EachPair (λ (a b : Call). ComesFirst a.op a.worker b.op b.worker) (calls_in batch)
-    → EachPair (λ (a b : Entry). ComesFirst a.op a.worker b.op b.worker) batch
+order_same : (batch : List Entry) → AllPairsByRecursion (λ (a b : Call). ComesFirst a.op a.worker b.op b.worker) (calls_in batch)
+    → AllPairsByRecursion (λ (a b : Entry). ComesFirst a.op a.worker b.op b.worker) batch
 order_same [] h = tt
 order_same (e ∷ batch) h = (each_unmapped call_in (λ (c : Call). ComesFirst e.op e.worker c.op c.worker) batch h.0, order_same batch h.1)
 

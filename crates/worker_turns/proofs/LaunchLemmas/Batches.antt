@@ -4,7 +4,7 @@ use Rattle.std.proofs.lemmas.List.{length-map}
 use Rattle.std.specs.List.{AllByRecursion}
 use Rattle.batch_history.specs.Book.{flat, IsBatch, IsHistory}
 use Rattle.batch_history.specs.Serving.{calls_in, call_in}
-use Rattle.launch_batch.specs.Calls.{MayServe, AreSame, IsServiceOf}
+use Rattle.launch_batch.specs.Calls.{MayServe, ArePermutations, IsServiceOf}
 use Rattle.seq_objects.specs.declared.call.Call.{Call}
 use Rattle.core_model.specs.Words.{Entry}
 use Rattle.table_rule.specs.declared.view.HoldView.{HoldView}
@@ -18,7 +18,7 @@ use Rattle.worker_turns.specs.Launches.{answer_events, serve_events}
 use Rattle.worker_turns.specs.Code.Serving.{Holds, IsAnswerable, HasTaken, taken_hold, after_service, after_answers, answered_all}
 use Rattle.worker_turns.proofs.HoldLemmas.Serving.{publish_due}
 
-same_length : {X : Type 0} (xs ys : List X) → AreSame xs ys → length ys ≡ length xs
+same_length : {X : Type 0} (xs ys : List X) → ArePermutations xs ys → length ys ≡ length xs
 same_length [] ys same = ap (λ l. length l) same
 same_length (x ∷ xs) ys (before, later, split, rest) =
     let n = same_length xs (before ++ later) rest in

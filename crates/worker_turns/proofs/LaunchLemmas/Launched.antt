@@ -10,7 +10,7 @@ use Rattle.table_rule.specs.Passes.{new_hold, in_hold, releasing}
 use Rattle.table_rule.specs.Batches.{IsReleaseDue}
 use Rattle.worker_turns.specs.Holds.{AreFit}
 use Rattle.table_rule.specs.declared.view.PassView.{PassView}
-use Rattle.worker_crew.specs.Workers.{MeSeen}
+use Rattle.worker_crew.specs.Workers.{WorkerView}
 use Rattle.worker_turns.specs.Launches.{Launches, look_events, serve_events, launch_events}
 use Rattle.worker_turns.specs.Code.Serving.{Holds, after_looks, looked, taken_hold, after_service, HasLooked, HasTaken, ServesBatch}
 use Rattle.worker_turns.proofs.HoldLemmas.Serving.{release_due}
@@ -51,13 +51,13 @@ by_looks : (old : PassView) (new : PassView) (h : HoldView) (book : List (List E
 by_looks old new h book events looks is =
     is ∙ (λ i. record old { hold = None; last = Some h; book_seen = book; stop_looks = sym (ap (λ (p : PassView). p.stop_looks) is) i; events = events })
 
-pub none_launched : (old new : MeSeen) (q : PassView) (workers : ℕ) (calls : List Call) (book : List (List Entry)) → old.pass.hold ≡ Some (new_hold book)
+pub none_launched : (old new : WorkerView) (q : PassView) (workers : ℕ) (calls : List Call) (book : List (List Entry)) → old.pass.hold ≡ Some (new_hold book)
     → HasLooked workers calls old.pass q → calls ≡ [] → new ≡ record old { pass = releasing q } → old.desk.posted ≡ [] → Launches workers book old new
 none_launched old new q workers calls book won (found, are, is) none now free =
     let h = taken_hold workers found calls book in
     let held : q ≡ record old.pass { hold = Some h; stop_looks = old.pass.stop_looks; events = (old.pass.events ++ look_events workers) ++ [] } =
     is ∙ (λ i. record old.pass { hold = in_hold (after_looks workers found calls) (won i); events = sym (append-nil (old.pass.events ++ look_events workers)) i }) in
-    let pass = ap (λ (m : MeSeen). m.pass) now ∙ released_from old.pass q workers old.pass.stop_looks h [] held in record {
+    let pass = ap (λ (m : WorkerView). m.pass) now ∙ released_from old.pass q workers old.pass.stop_looks h [] held in record {
       done = h;
       posted = [];
       served = [];
@@ -65,19 +65,19 @@ none_launched old new q workers calls book won (found, are, is) none now free =
       released = by_looks old.pass new.pass h h.book _ old.pass.stop_looks pass;
       looks = (let l = ap (λ (p : PassView). p.stop_looks) pass in omega (arith, l));
       desk = record {
-        posts = ap (λ (m : MeSeen). m.desk.posts) now ∙ sym (append-nil _);
-        collects = (let c = ap (λ (m : MeSeen). m.desk.collects) now in omega (arith, c));
-        free = ap (λ (m : MeSeen). m.desk.posted) now ∙ free;
+        posts = ap (λ (m : WorkerView). m.desk.posts) now ∙ sym (append-nil _);
+        collects = (let c = ap (λ (m : WorkerView). m.desk.collects) now in omega (arith, c));
+        free = ap (λ (m : WorkerView). m.desk.posted) now ∙ free;
         given = [];
-        gave = ap (λ (m : MeSeen). m.desk.given) now ∙ sym (append-nil _);
-        finishes = (let f = ap (λ (m : MeSeen). m.desk.finishes) now in omega (arith, f));
-        row = ap (λ (m : MeSeen). m.desk.row) now;
+        gave = ap (λ (m : WorkerView). m.desk.given) now ∙ sym (append-nil _);
+        finishes = (let f = ap (λ (m : WorkerView). m.desk.finishes) now in omega (arith, f));
+        row = ap (λ (m : WorkerView). m.desk.row) now;
       };
-      core = ap (λ (m : MeSeen). m.core) now;
+      core = ap (λ (m : WorkerView). m.core) now;
     }
 
 -- the calls that were taken were served
-pub served_release : (old new : MeSeen) (workers : ℕ) (calls : List Call) (book after : List (List Entry)) → HasTaken workers calls book old.pass.hold
+pub served_release : (old new : WorkerView) (workers : ℕ) (calls : List Call) (book after : List (List Entry)) → HasTaken workers calls book old.pass.hold
     → MayServe book calls → ServesBatch book calls after old new → (h : HoldView) × (new.pass.hold ≡ Some h) × IsReleaseDue workers h × (after ≡ h.book)
 served_release old new workers calls book after (found, hold) may s =
     let h = after_service s.batch (taken_hold workers found calls book) in (
@@ -87,7 +87,7 @@ served_release old new workers calls book after (found, hold) may s =
       s.grown,
     )
 
-pub served_launched : (old new : MeSeen) (q r : PassView) (workers : ℕ) (calls : List Call) (book after : List (List Entry)) → old.pass.hold ≡ Some (new_hold book) → MayServe book calls
+pub served_launched : (old new : WorkerView) (q r : PassView) (workers : ℕ) (calls : List Call) (book after : List (List Entry)) → old.pass.hold ≡ Some (new_hold book) → MayServe book calls
     → HasLooked workers calls old.pass q → ServesBatch book calls after (record old { pass = q }) (record new { pass = r }) → new.pass ≡ releasing r
     → Launches workers book old new
 served_launched old new q r workers calls book after won may (found, are, is) s now =

@@ -4,7 +4,7 @@ use Rattle.std.proofs.lemmas.List.{map-append}
 use Rattle.seq_objects.specs.declared.call.Call.{Call}
 use Rattle.core_model.specs.declared.event.Event.TheVariants.{Take}
 use Rattle.table_rule.specs.declared.view.HoldView.{HoldView}
-use Rattle.table_rule.specs.Passes.{after_take, after_pass, in_hold, taking, passing}
+use Rattle.table_rule.specs.Passes.{after_take, after_pass, in_hold, taking, skipping}
 use Rattle.worker_turns.specs.Holds.{AreFit}
 use Rattle.table_rule.specs.declared.view.PassView.{PassView}
 use Rattle.table_rule.proofs.ListLemmas.Last.{if_no}
@@ -89,16 +89,16 @@ pass_in : (u : ℕ) (found : List ℕ) (calls : List Call) (status : ℕ) (h : O
 pass_in u found calls status None = refl
 pass_in u found calls status (Some h) = refl
 
-looked_pass : (p q r : PassView) (u : ℕ) (calls : List Call) (status : ℕ) → HasLooked u calls p q → status ≢ 1 → r ≡ passing u status q → HasLooked (u + 1) calls p r
+looked_pass : (p q r : PassView) (u : ℕ) (calls : List Call) (status : ℕ) → HasLooked u calls p q → status ≢ 1 → r ≡ skipping u status q → HasLooked (u + 1) calls p r
 looked_pass p q r u calls status (found, are, was) other now = (
   found ++ status ∷ [],
   found_pass u found calls status other are,
-  now ∙ ap (passing u status) was ∙ (λ i. record p { hold = pass_in u found calls status p.hold i; events = more_events p u u refl i }),
+  now ∙ ap (skipping u status) was ∙ (λ i. record p { hold = pass_in u found calls status p.hold i; events = more_events p u u refl i }),
 )
 
 -- a look that took no call
 pub looked_else : (p q r : PassView) (u : ℕ) (calls more : List Call) (result : Result Call ℕ) → HasLooked u calls p q → ((call : Call) → result ≡ Ok call → ⊥)
-    → IfErr result (λ status. (status ≢ 1) × (r ≡ passing u status q)) → more ≡ calls → HasLooked (u + 1) more p r
+    → IfErr result (λ status. (status ≢ 1) × (r ≡ skipping u status q)) → more ≡ calls → HasLooked (u + 1) more p r
 looked_else p q r u calls more (Ok call) was other now same = absurd (other call refl)
 looked_else p q r u calls more (Err status) was other now same =
     subst (λ (l : List Call). HasLooked (u + 1) l p r) (sym same) (looked_pass p q r u calls status was now.0 now.1)

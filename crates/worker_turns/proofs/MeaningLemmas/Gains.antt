@@ -25,18 +25,18 @@ module _ {T : Type 0} where
   pub record Popped (lost : List T) (old new : HeldEnds T) : Type 0 where
     pub own : old.own ≡ new.own ++ lost
     pub stolen : new.stolen ≡ old.stolen
-    pub fruitless : new.fruitless_steals ≡ old.fruitless_steals
+    pub failed : new.failed_steals ≡ old.failed_steals
 
   pub popped : (o : Option T) (old new : HeldEnds T) → IsPop o old new → Popped (listed o) old new
   popped None old new is = record {
     own = sym (append-nil _ ∙ ap (λ (e : HeldEnds T). e.own) is);
     stolen = ap (λ (e : HeldEnds T). e.stolen) is;
-    fruitless = ap (λ (e : HeldEnds T). e.fruitless_steals) is;
+    failed = ap (λ (e : HeldEnds T). e.failed_steals) is;
   }
   popped (Some x) old new is = record {
     own = ap (λ (e : HeldEnds T). e.own) is;
     stolen = sym (ap (λ (e : HeldEnds T). e.stolen) is);
-    fruitless = sym (ap (λ (e : HeldEnds T). e.fruitless_steals) is);
+    failed = sym (ap (λ (e : HeldEnds T). e.failed_steals) is);
   }
 
   pub took_none : (victim : ℕ) (old new : HeldEnds T) → new.stolen ≡ old.stolen → Took victim [] old new
@@ -73,9 +73,9 @@ module _ {T : Type 0} where
         };
       }
 
-  pub fruitless_rose : (victim : ℕ) (old new : HeldEnds T) → victim < length old.fruitless_steals → IsSteal victim None old new → FruitlessRose victim old new
-  fruitless_rose victim old new below is =
-      ap (λ (e : HeldEnds T). get_or e.fruitless_steals victim 0) is ∙ get_or-set_same old.fruitless_steals victim _ 0 below
+  pub failed_rose : (victim : ℕ) (old new : HeldEnds T) → victim < length old.failed_steals → IsSteal victim None old new → FruitlessRose victim old new
+  failed_rose victim old new below is =
+      ap (λ (e : HeldEnds T). get_or e.failed_steals victim 0) is ∙ get_or-set_same old.failed_steals victim _ 0 below
 
 -- the next victim is a worker
 below_by_deck : (d : Deck) (x y : Try) (n : ℕ) → x.victim < n → y.victim < n → (by_deck d x y).victim < n
@@ -97,10 +97,10 @@ has_all_ends decks hand pass desk tries is workers =
       some = omega (arith, below, workers);
       core = record {
         stolen = length-map _ _ ∙ is.core.reaches.count ∙ sym workers;
-        fruitless = length-map _ _ ∙ is.core.reaches.count ∙ sym workers;
+        failed = length-map _ _ ∙ is.core.reaches.count ∙ sym workers;
       };
       batch = record {
         stolen = length-map _ _ ∙ is.batch.reaches.count ∙ is.alike ∙ sym workers;
-        fruitless = length-map _ _ ∙ is.batch.reaches.count ∙ is.alike ∙ sym workers;
+        failed = length-map _ _ ∙ is.batch.reaches.count ∙ is.alike ∙ sym workers;
       };
     }

@@ -6,7 +6,7 @@ use Rattle.core_model.specs.Words.{Entry}
 use Rattle.worker_turns.specs.declared.trapped.Trapped.TheVariants.{Launched}
 use Rattle.table_rule.specs.declared.view.PassView.{PassView}
 use Rattle.table_rule.specs.declared.view.HoldView.{HoldView}
-use Rattle.worker_crew.specs.Workers.{MeSeen}
+use Rattle.worker_crew.specs.Workers.{WorkerView}
 use Rattle.worker_turns.specs.Pieces.{Desk, spot_of}
 use Rattle.worker_crew.specs.Words.{Event}
 use Rattle.worker_turns.specs.Launches.{ExecutesPieces, ArePlaces, Collects, Launches}
@@ -61,7 +61,7 @@ found_of workers book posted served done old new s g = elim g.batch [
   )
 ]
 
-pub launch_means : (workers : ℕ) (book : List (List Entry)) (old new : MeSeen) → Launches workers book old new → HasLaunched workers book old new
+pub launch_means : (workers : ℕ) (book : List (List Entry)) (old new : WorkerView) → Launches workers book old new → HasLaunched workers book old new
 launch_means workers book old new l = record {
   done = l.done;
   last = ap (λ (p : PassView). p.last) l.released;
@@ -72,7 +72,7 @@ launch_means workers book old new l = record {
   found = found_of workers book l.posted l.served l.done old.desk new.desk l.desk l.gathers;
 }
 
-did_launch : (workers : ℕ) (book : List (List Entry)) (lost : List Spot) (batch : HeldEnds Spot) (old new : MeSeen) → Launches workers book (won_after book (after_own lost batch old)) new → DidLaunch workers old new
+did_launch : (workers : ℕ) (book : List (List Entry)) (lost : List Spot) (batch : HeldEnds Spot) (old new : WorkerView) → Launches workers book (won_after book (after_own lost batch old)) new → DidLaunch workers old new
 did_launch workers book lost batch old new l =
     let mid = won_after book (after_own lost batch old) in
     let h = launch_means workers book mid new l in record {
@@ -91,7 +91,7 @@ did_launch workers book lost batch old new l =
       };
     }
 
-pub launched_means : (workers : ℕ) (old new : MeSeen) → IsTrappedTurn workers Launched old new → DidLaunch workers old new
+pub launched_means : (workers : ℕ) (old new : WorkerView) → IsTrappedTurn workers Launched old new → DidLaunch workers old new
 launched_means workers old new (own, a, book, unrun, p, l, front) =
     did_launch workers book (listed (spot_of own)) a.batch old new
-    (subst (λ (m : MeSeen). Launches workers book (won_after book m) new) (own_none own old a unrun p) l)
+    (subst (λ (m : WorkerView). Launches workers book (won_after book m) new) (own_none own old a unrun p) l)

@@ -10,7 +10,7 @@ use Rattle.launch_batch.specs.declared.piece.PieceIn.{PieceIn}
 use Rattle.worker_turns.specs.declared.attempts.PieceAttempt.{PieceAttempt}
 use Rattle.worker_turns.specs.declared.attempts.PieceAttempt.TheVariants.{Ran, Stale, Empty}
 use Rattle.launch_batch.specs.Pieces.{place_of}
-use Rattle.worker_crew.specs.Workers.{MeSeen}
+use Rattle.worker_crew.specs.Workers.{WorkerView}
 use Rattle.worker_turns.specs.Pieces.{IsOwnPiece, IsOtherPiece, Desk, with_place, after_posts, after_run, desk_after, after_works, DrainsRow}
 
 -- the first entry is gone
@@ -104,20 +104,20 @@ posted_more d e f ins k n x inside at is was now =
     ∙ ap (λ l. after_posts l d) (sym more)
 
 -- the own deque of pieces was tried once
-pub own_works : (t : PieceAttempt) (a b : MeSeen) → IsOwnPiece t a b → DrainsRow 0 a.desk b.desk
-own_works t a b path = works_tried t a.desk b.desk (ap (λ (m : MeSeen). m.desk) path.same)
+pub own_works : (t : PieceAttempt) (a b : WorkerView) → IsOwnPiece t a b → DrainsRow 0 a.desk b.desk
+own_works t a b path = works_tried t a.desk b.desk (ap (λ (m : WorkerView). m.desk) path.same)
 
-pub own_core : (t : PieceAttempt) (a b : MeSeen) → IsOwnPiece t a b → b.core ≡ a.core
-own_core t a b path = ap (λ (m : MeSeen). m.core) path.same
+pub own_core : (t : PieceAttempt) (a b : WorkerView) → IsOwnPiece t a b → b.core ≡ a.core
+own_core t a b path = ap (λ (m : WorkerView). m.core) path.same
 
 -- another's was tried once, if there is one
-pub other_works : (t : PieceAttempt) (a b : MeSeen) → IsOtherPiece t a b → DrainsRow 0 a.desk b.desk
-other_works t a b (inl alone) = subst (λ (m : MeSeen). DrainsRow 0 a.desk m.desk) (sym alone.2) (works_none a.desk)
-other_works t a b (inr stolen) = works_tried t a.desk b.desk (ap (λ (m : MeSeen). m.desk) stolen.same)
+pub other_works : (t : PieceAttempt) (a b : WorkerView) → IsOtherPiece t a b → DrainsRow 0 a.desk b.desk
+other_works t a b (inl alone) = subst (λ (m : WorkerView). DrainsRow 0 a.desk m.desk) (sym alone.2) (works_none a.desk)
+other_works t a b (inr stolen) = works_tried t a.desk b.desk (ap (λ (m : WorkerView). m.desk) stolen.same)
 
-pub other_core : (t : PieceAttempt) (a b : MeSeen) → IsOtherPiece t a b → b.core ≡ a.core
-other_core t a b (inl alone) = ap (λ (m : MeSeen). m.core) alone.2
-other_core t a b (inr stolen) = ap (λ (m : MeSeen). m.core) stolen.same
+pub other_core : (t : PieceAttempt) (a b : WorkerView) → IsOtherPiece t a b → b.core ≡ a.core
+other_core t a b (inl alone) = ap (λ (m : WorkerView). m.core) alone.2
+other_core t a b (inr stolen) = ap (λ (m : WorkerView). m.core) stolen.same
 
 -- the next place is free
 pub free_next : (d e : Desk) (ins : List PieceIn) (k n : ℕ) (x : PieceIn) → StrictlyAscends (map place_of ins) → k < length ins → x ≡ get_or ins k x → n ≡ place_of x

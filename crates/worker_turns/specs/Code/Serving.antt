@@ -7,7 +7,7 @@ use Rattle.table_rule.specs.declared.view.HoldView.{HoldView}
 use Rattle.table_rule.specs.Passes.{new_hold, in_hold, without_first}
 use Rattle.worker_turns.specs.Holds.{workers_in, IsPublished}
 use Rattle.table_rule.specs.declared.view.PassView.{PassView}
-use Rattle.worker_crew.specs.Workers.{MeSeen}
+use Rattle.worker_crew.specs.Workers.{WorkerView}
 use Rattle.worker_turns.specs.Launches.{ExecutesPieces, ArePlaces, AreFound, look_events, answer_events, serve_events}
 
 -- there is a hold, and it satisfies P
@@ -75,7 +75,7 @@ after_service batch h = record h {
 -- The calls were served as one batch after `book`, with its pieces posted and collected; the batch was published, and
 -- answered; and the book is `after` then. Meanwhile the worker may have looked at the stop word, and found it unset.
 pub record ServesBatch (book : List (List Entry)) (calls : List Call) (after : List (List Entry))
-    (old new : MeSeen) : Type 0 where
+    (old new : WorkerView) : Type 0 where
   pub batch : List Entry
   pub posted : List ℕ
   pub service : IsServiceOf book calls batch

@@ -2,7 +2,7 @@
 use Rattle.std.specs.Prelude.{ℕ, ◌≡◌, ◌≢◌, ◌<◌, List, ◌++◌, length, slice_index_or}
 use Rattle.two_deques.specs.declared.spot.Spot.{Spot}
 use Rattle.two_deques.specs.Ends.{HeldEnds, stolen_from, risen}
-use Rattle.worker_crew.specs.Workers.{MeSeen}
+use Rattle.worker_crew.specs.Workers.{WorkerView}
 use Rattle.worker_turns.specs.Pieces.{piece_try}
 
 -- the new list is the old one with `more` behind it
@@ -19,12 +19,12 @@ module _ {T : Type 0} where
   EmptyPopsRose old new = new.empty_pops ≡ risen old.empty_pops
 
   -- the number of steals at the victim's deque that found nothing; 0 if there is no such worker
-  abbrev pub fruitless_at : ℕ → HeldEnds T → ℕ
-  fruitless_at victim e = slice_index_or e.fruitless_steals victim 0
+  abbrev pub failed_at : ℕ → HeldEnds T → ℕ
+  failed_at victim e = slice_index_or e.failed_steals victim 0
 
   -- this number rose by one (saturating)
   abbrev pub FruitlessRose : ℕ → HeldEnds T → HeldEnds T → Type 0
-  FruitlessRose victim old new = fruitless_at victim new ≡ risen (fruitless_at victim old)
+  FruitlessRose victim old new = failed_at victim new ≡ risen (failed_at victim old)
 
   -- the hand took exactly these tasks from the victim's deque, in this order, and none from any other
   pub record Took (victim : ℕ) (taken : List T) (old new : HeldEnds T) : Type 0 where
@@ -44,14 +44,14 @@ module _ {T : Type 0} where
   -- the ends cover the deques of exactly `workers` workers
   pub record HasEachEnd (workers : ℕ) (e : HeldEnds T) : Type 0 where
     pub stolen : length e.stolen ≡ workers
-    pub fruitless : length e.fruitless_steals ≡ workers
+    pub failed : length e.failed_steals ≡ workers
 
 -- the victim of the next steal of pieces
-abbrev pub next_victim : MeSeen → ℕ
+abbrev pub next_victim : WorkerView → ℕ
 next_victim m = (piece_try m.tries).victim
 
 -- there is at least one worker, and the ends of both kinds cover all workers' deques
-pub record HasAllEnds (m : MeSeen) : Type 0 where
+pub record HasAllEnds (m : WorkerView) : Type 0 where
   pub some : 0 < m.tries.workers
   pub core : HasEachEnd m.tries.workers m.core
   pub batch : HasEachEnd m.tries.workers m.batch

@@ -6,7 +6,7 @@ use Rattle.worker_turns.specs.declared.trapped.Trapped.TheVariants.{Left, Piece,
 use Rattle.table_rule.specs.declared.view.PassView.{PassView}
 use Rattle.worker_crew.specs.Passes.{IsFree, IsTrapped}
 use Rattle.worker_turns.specs.Pieces.{Desk}
-use Rattle.worker_crew.specs.Workers.{MeSeen}
+use Rattle.worker_crew.specs.Workers.{WorkerView}
 use Rattle.worker_turns.specs.Trapped.{IsJobSame, IsCallSame}
 
 -- the record of what `since` answered is unchanged
@@ -38,7 +38,7 @@ CallAfter Nothing old new = IsStillTrapped old new
 
 -- The worker's ends of the deques of nodes are unchanged, and so is all that `IsJobSame` lists, among it the nodes
 -- claimed, refused and opened.
-pub record KeepsNodes (old new : MeSeen) : Type 0 where
+pub record KeepsNodes (old new : WorkerView) : Type 0 where
   pub core : new.core ≡ old.core
   pub job : IsJobSame old.pass new.pass
 

@@ -1,7 +1,7 @@
 //! The meaning of a launch.
 ghost use Rattle.std.specs.Prelude.{ℕ, List};
 ghost use Rattle.batch_history.specs.declared.batch.Entry.{Entry};
-ghost use Rattle.worker_crew.specs.Workers.{MeSeen};
+ghost use Rattle.worker_crew.specs.Workers.{WorkerView};
 ghost use Rattle.worker_turns.specs.Launches.{Launches};
 ghost use Rattle.worker_turns.specs.Meanings.Launches.{HasLaunched};
 
@@ -10,6 +10,6 @@ ghost use Rattle.worker_turns.specs.Meanings.Launches.{HasLaunched};
 /// each result once. Afterwards the flag is released.
 #[tactic(auto, using(crate::proofs::MeaningLemmas::Launches::launch_means))]
 pub fn a_launch_serves_exactly_the_calls_that_it_found()
-    ensures { (workers : ℕ) (book : List (List Entry)) (old new : MeSeen) → Launches workers book old new
+    ensures { (workers : ℕ) (book : List (List Entry)) (old new : WorkerView) → Launches workers book old new
         → HasLaunched workers book old new }
 {}

@@ -5,7 +5,7 @@ use Rattle.core_model.specs.Words.{Op}
 use Rattle.core_model.specs.declared.event.Event.TheVariants.{Post}
 use Rattle.core_model.specs.declared.task.Task.TheVariants.{Started}
 use Rattle.core_table.specs.Passes.{pass_view}
-use Rattle.table_rule.specs.Shows.{IsFront}
+use Rattle.table_rule.specs.Shows.{IsPrefix}
 use Rattle.worker_crew.specs.Passes.{IsTrapped}
 use Rattle.worker_crew.specs.Workers.{IsMeOf}
 use Rattle.worker_turns.specs.Trapped.{IsJobSame}
@@ -19,10 +19,10 @@ invariant-loop g l = record {
   job : IsJobSame (pass_view l.fn.me.pass) (pass_view l.me.pass);
   posted : (op : Op) × ((pass_view l.me.pass).posted ≡ Some (record { leaf = l.fn.leaf; op = op }));
   made : (node : ℕ) × (start : ℕ) × ((pass_view l.fn.me.pass).task ≡ Started node start)
-      × IsFront ((pass_view l.fn.me.pass).events ++ Post node start ∷ []) (pass_view l.me.pass).events;
+      × IsPrefix ((pass_view l.fn.me.pass).events ++ Post node start ∷ []) (pass_view l.me.pass).events;
   looks : (pass_view l.fn.me.pass).stop_looks ≤ (pass_view l.me.pass).stop_looks;
   left : (pass_view l.me.pass).left ≡ (pass_view l.fn.me.pass).left;
-  book : IsFront (pass_view l.fn.me.pass).book_seen (pass_view l.me.pass).book_seen;
+  book : IsPrefix (pass_view l.fn.me.pass).book_seen (pass_view l.me.pass).book_seen;
   before : (pass_view l.me.pass).before ≡ (pass_view l.fn.me.pass).greatest;
   after : (pass_view l.me.pass).after ≡ Some l.since;
   first : (pass_view l.me.pass).first_since ≡ Some l.since;

@@ -1,9 +1,9 @@
 use Rattle.std.proofs.Common.{rules, ◌≡◌, ap, ◌∙◌, subst}
 use Rattle.table_rule.specs.declared.view.PassView.{PassView}
-use Rattle.table_rule.specs.Passes.{losing, staying, winning}
+use Rattle.table_rule.specs.Passes.{refusing_win, refusing_leave, winning}
 use Rattle.core_table.specs.Passes.{job_in, pass_view}
-use Rattle.table_rule.specs.Shows.{IsFront}
-use Rattle.worker_crew.specs.Workers.{MeSeen, me_seen}
+use Rattle.table_rule.specs.Shows.{IsPrefix}
+use Rattle.worker_crew.specs.Workers.{WorkerView, me_seen}
 use Rattle.worker_turns.specs.Pieces.{IsOwnPiece, IsOtherPiece}
 use Rattle.worker_turns.specs.declared.trapped.Trapped.TheVariants.{Piece, Launched, Nothing}
 use Rattle.worker_turns.specs.Launches.{Launches}
@@ -20,7 +20,7 @@ returns g c =
     let old = me_seen c.args.me.now in
     let tried = me_seen c.pop_own_piece.new.me in
     let own = subst (λ (p : PassView). IsOwnPiece c.in_ok-own.own (record old { pass = p }) tried) (own_of _ _ (c.stopped.ensures.unset c.if-stopped.false).2) c.in_ok-own.ensures.path in
-    let refused : pass_view c.win.new.pass ≡ losing (staying (pass_view c.pop_own_piece.new.me.pass)) = search rules in
+    let refused : pass_view c.win.new.pass ≡ refusing_win (refusing_leave (pass_view c.pop_own_piece.new.me.pass)) = search rules in
     let other = subst (λ (p : PassView). IsOtherPiece c.in_ok-other.other (record tried { pass = p }) (me_seen c.steal_other_piece.new.me)) refused c.in_ok-other.ensures.path in
     let path : IsTrappedTurn (job_in c.args.crew.now.table).workers Nothing old (me_seen c.steal_other_piece.new.me) =
     (c.in_ok-own.own, c.in_ok-other.other, tried, search rules, search rules, own, other) in record {
@@ -60,11 +60,11 @@ returns-in-Some g c =
     let new = me_seen c.launch.new.me in
     let own = subst (λ (p : PassView). IsOwnPiece c.in_ok-own.own (record old { pass = p }) tried) (own_of _ _ (c.stopped.ensures.unset c.if-stopped.false).2) c.in_ok-own.ensures.path in
     let shop = c.in-Some.shop in
-    let stay : pass_view c.leave.new.pass ≡ staying tried.pass = search rules in
+    let stay : pass_view c.leave.new.pass ≡ refusing_leave tried.pass = search rules in
     let won = c.in-Some.ensures.won in
-    let now : pass_view c.win.new.pass ≡ winning shop (staying tried.pass) = own_of _ _ won.0 ∙ ap (winning shop) stay in
+    let now : pass_view c.win.new.pass ≡ winning shop (refusing_leave tried.pass) = own_of _ _ won.0 ∙ ap (winning shop) stay in
     let launches : Launches workers shop (won_after shop tried) new = subst (λ (p : PassView). Launches workers shop (record tried { pass = p }) new) now c.in_ok-launch.ensures.launched in
-    let front : IsFront tried.pass.book_seen shop = subst (λ (p : PassView). IsFront p.book_seen shop) stay won.1 in
+    let front : IsPrefix tried.pass.book_seen shop = subst (λ (p : PassView). IsPrefix p.book_seen shop) stay won.1 in
     let path : IsTrappedTurn workers Launched old new = (c.in_ok-own.own, tried, shop, search rules, own, launches, front) in record {
       pass = c.in_ok-launch.ensures.pass;
       me = c.in_ok-launch.ensures.me;
@@ -73,7 +73,7 @@ returns-in-Some g c =
       looked = trapped_looked workers Launched old new path;
       stays = (call_after workers Launched old new c.requires.trapped path).same;
       free = launches.desk.free;
-      core = launches.core ∙ ap (λ (m : MeSeen). m.core) own.same;
+      core = launches.core ∙ ap (λ (m : WorkerView). m.core) own.same;
       helps = trapped_helps workers Launched old new path;
       stopped = search rules;
     }

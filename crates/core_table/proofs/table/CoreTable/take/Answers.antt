@@ -7,7 +7,7 @@ use Rattle.table_rule.specs.declared.view.HoldView.{HoldView}
 use Rattle.table_rule.specs.TracksHold.{Owes}
 use Rattle.core_table.proofs.ListLemmas.Owed.{remembers_hold, owes_passed, owes_taken}
 use Rattle.core_table.proofs.PassLemmas.PassKept.{same_hold}
-use Rattle.table_rule.specs.Passes.{call_by, in_hold, after_take, after_pass, taking, passing}
+use Rattle.table_rule.specs.Passes.{call_by, in_hold, after_take, after_pass, taking, skipping}
 use Rattle.table_rule.specs.Views.{with_step, with_found}
 use Rattle.table_rule.proofs.StepLemmas.GateSteps.{looks}
 use Rattle.core_model.specs.State.{CoreJob}
@@ -33,7 +33,7 @@ exchange-slot-requires c =
 pub returns-then-seen-ne1-clause-pass : goal.returns-then-seen-ne1-clause-pass
 returns-then-seen-ne1-clause-pass c =
     let old = c.args.pass.now.seat in let e = c.compare_exchange-seen.ensures.2 in
-    let w = with_found c.compare_exchange-seen.result (passing c.args.u c.compare_exchange-seen.result) old.me.0 in
+    let w = with_found c.compare_exchange-seen.result (skipping c.args.u c.compare_exchange-seen.result) old.me.0 in
     let out : old.me.0.own.call ≡ Out = held_out c.args.pass.now.worker old.me e.0 c.requires.pass.7 e.1 in
     pass_made c.args.self.now.setting _ c.args.pass.now.worker old c.compare_exchange-seen.new.seat w old.me.1 c.compare_exchange-seen.ensures.0 (e.4 c.if-seen-ne1.true) refl refl refl refl refl refl
     (carries_passed c.args.pass.now.worker c.args.u old.me.0 e.0 c.compare_exchange-seen.result old.me.1 out e.1 c.requires.pass.7)

@@ -4,7 +4,7 @@ use Rattle.table_rule.specs.declared.slot.Slot.TheVariants as Slots
 use Rattle.table_rule.specs.Shows.{reserved, room_of, job_of}
 use Rattle.core_table.proofs.PassLemmas.PassKept.{pass_kept, pass_made, first, swapped, turned_to, carries_won}
 use Rattle.core_table.proofs.ListLemmas.Owed.{remembers_hold, owes_new}
-use Rattle.table_rule.specs.Passes.{new_hold, winning, losing}
+use Rattle.table_rule.specs.Passes.{new_hold, winning, refusing_win}
 use Rattle.table_rule.specs.Views.{with_step, with_found}
 use Rattle.table_rule.proofs.StepLemmas.GateSteps.{wins}
 use Rattle.core_table.proofs.table.CoreTable.win.Goals as goal
@@ -21,7 +21,7 @@ compare_exchange-requires c =
 pub returns-then-compare_exchange-ne0-clause-pass : goal.returns-then-compare_exchange-ne0-clause-pass
 returns-then-compare_exchange-ne0-clause-pass c =
     let old = c.args.pass.now.seat in
-    pass_kept c.args.self.now.setting _ c.args.pass.now.worker old c.compare_exchange.new.seat (with_found c.compare_exchange.result losing old.me.0) c.compare_exchange.ensures.0 (c.compare_exchange.ensures.2.1 c.if-compare_exchange-ne0.true) refl refl refl refl refl refl refl refl c.requires.pass
+    pass_kept c.args.self.now.setting _ c.args.pass.now.worker old c.compare_exchange.new.seat (with_found c.compare_exchange.result refusing_win old.me.0) c.compare_exchange.ensures.0 (c.compare_exchange.ensures.2.1 c.if-compare_exchange-ne0.true) refl refl refl refl refl refl refl refl c.requires.pass
 
 pub exchange-slot-requires : goal.exchange-slot-requires
 exchange-slot-requires c =

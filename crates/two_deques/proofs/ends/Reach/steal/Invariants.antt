@@ -5,4 +5,4 @@ use Rattle.two_deques.proofs.ends.Reach.steal.Given as goal
 abbrev pub invariant-loop : goal.invariant-loop
 invariant-loop g l =
     IsPassOf (stealer_deque l.thief) l.self.pass × (view l.self.pass ≡ view l.initial.self.pass)
-    × (l.self.fruitless_steals ≡ l.initial.self.fruitless_steals)
+    × (l.self.failed_steals ≡ l.initial.self.failed_steals)

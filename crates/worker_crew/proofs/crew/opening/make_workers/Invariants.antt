@@ -1,6 +1,6 @@
 use Rattle.std.proofs.Common.{◌≡◌, ◌≤◌, drop}
 use Rattle.worker_crew.specs.Opening.{AreAtStart}
-use Rattle.worker_crew.proofs.crew.opening.mes_of.Given as goal
+use Rattle.worker_crew.proofs.crew.opening.make_workers.Given as goal
 
 abbrev pub invariant-loop-worker : goal.invariant-loop-worker
 invariant-loop-worker g l = record {

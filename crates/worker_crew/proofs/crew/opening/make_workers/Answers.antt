@@ -5,7 +5,7 @@ use Rattle.worker_crew.specs.declared.crew.Me.{Me}
 use Rattle.worker_crew.specs.Opening.{opening_hand, AreAtStart}
 use Rattle.worker_crew.proofs.OpeningLemmas.Taking.{left_then, next_of}
 use Rattle.worker_crew.proofs.OpeningLemmas.Gathering.{at_start, one_more}
-use Rattle.worker_crew.proofs.crew.opening.mes_of.Goals as goal
+use Rattle.worker_crew.proofs.crew.opening.make_workers.Goals as goal
 
 pub opening-requires-clause-hand : goal.opening-requires-clause-hand
 opening-requires-clause-hand g c =

@@ -19,11 +19,11 @@ unfolding IsDistinct
 test_distinct [] distinct = tt
 test_distinct (x ∷ xs) distinct = (test_apart x xs distinct.0, test_distinct xs distinct.1)
 
-found_step : (n q x : ℕ) (b rest : Bool) → eqb q x ≡ b → (b || rest) ≡ true → x < n → (rest ≡ true → q < n) → q < n
+pub found_step : (n q x : ℕ) (b rest : Bool) → eqb q x ≡ b → (b || rest) ≡ true → x < n → (rest ≡ true → q < n) → q < n
 found_step n q x true rest same found below more = grind (arith, nat_tests)
 found_step n q x false rest other found below more = more found
 
-found_below : (n q : ℕ) (xs : List ℕ) → AllByRecursion (λ x. x < n) xs → list_any (eqb q) xs ≡ true → q < n
+pub found_below : (n q : ℕ) (xs : List ℕ) → AllByRecursion (λ x. x < n) xs → list_any (eqb q) xs ≡ true → q < n
 found_below n q [] below found = cc
 found_below n q (x ∷ xs) below found =
     found_step n q x (eqb q x) (list_any (eqb q) xs) refl found below.0 (found_below n q xs below.1)

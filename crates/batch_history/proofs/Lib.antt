@@ -1,6 +1,6 @@
 pub mod ActLemmas
 pub mod BookLemmas
 pub mod Counters
-mod Few
+pub mod Few
 pub mod NameLemmas
-mod TallyLemmas
+pub mod TallyLemmas

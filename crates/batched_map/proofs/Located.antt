@@ -2,7 +2,7 @@
 use Rattle.std.proofs.Common.{◌≡◌, ℕ, zero, suc, ◌+◌, ◌-◌, ◌≤◌, inl, inr, true, false, nat_lt, if◌then◌else◌, List, [], ◌∷◌, ◌++◌, length, drop, get_or, refl, ap, sym, ◌∙◌, arith}
 use Rattle.std.proofs.lemmas.Bool.Decides.{nat_tests}
 use Rattle.key_sets.specs.Groups.{group_of}
-use Rattle.key_sets.proofs.KeyLemmas.Sides.{less_or_not}
+use Rattle.std.proofs.lemmas.Bool.{cases_lt}
 use Rattle.keyed_pieces.specs.Ranges.{below, from, ranges}
 use Rattle.keyed_pieces.proofs.Sides.{all_below, all_from, both_sides, ascends_from}
 use Rattle.rank_nodes.specs.declared.entry.Entry.{Entry}
@@ -22,7 +22,7 @@ value_located [] entries key up = refl
 value_located (b ∷ starts) entries key up =
     let low = below key_of b entries in
     let high = from key_of b entries in
-    elim (less_or_not key b) [
+    elim (cases_lt key b) [
       | inl less ↦
           let test : nat_lt key b ≡ true = grind (arith, nat_tests) in
           rw test (sym (ap (value_at key) (both_sides key_of b entries up) ∙ value_low key b low high less (all_from key_of b entries)))
@@ -45,7 +45,7 @@ rank_located [] before entries key up = refl
 rank_located (b ∷ starts) before entries key up =
     let low = below key_of b entries in
     let high = from key_of b entries in
-    elim (less_or_not key b) [
+    elim (cases_lt key b) [
       | inl less ↦
           let test : nat_lt key b ≡ true = grind (arith, nat_tests) in
           rw test (ap (λ n. before + n) (sym (ap (rank_of key) (both_sides key_of b entries up) ∙ rank_low key b low high (omega (arith, less)) (all_from key_of b entries))))
@@ -66,7 +66,7 @@ key_append i [] high =
 key_append zero (p ∷ low) high =
     let test : nat_lt 0 (suc (length low)) ≡ true = grind (arith, nat_tests) in
     rw test refl
-key_append (suc i) (p ∷ low) high = elim (less_or_not i (length low)) [
+key_append (suc i) (p ∷ low) high = elim (cases_lt i (length low)) [
   | inl less ↦
       let test : nat_lt (suc i) (suc (length low)) ≡ true = grind (arith, nat_tests) in
       let test' : nat_lt i (length low) ≡ true = grind (arith, nat_tests) in
@@ -87,7 +87,7 @@ key_located (b ∷ starts) before entries index le up =
     let high = from key_of b entries in
     let next = before + length low in
     let sides : key_at (index - before) entries ≡ key_at (index - before) (low ++ high) = ap (key_at (index - before)) (both_sides key_of b entries up) in
-    elim (less_or_not index next) [
+    elim (cases_lt index next) [
       | inl less ↦
           let test : nat_lt index next ≡ true = grind (arith, nat_tests) in
           let test' : nat_lt (index - before) (length low) ≡ true = grind (arith, nat_tests, less, le) in

@@ -9,7 +9,7 @@ use Rattle.batched_queue.specs.declared.piece.Piece.{Piece}
 use Rattle.batched_queue.specs.declared.piece.Served.{Served}
 use Rattle.batched_queue.specs.Code.Stripes.{stripe, count_in}
 use Rattle.batched_queue.specs.Code.Pieces.{Meets, IsTaken, IsPieceOf, IsUntouched, IsCut, numbers_in, with_outs}
-use Rattle.batched_queue.proofs.Lists.{all_more}
+use Rattle.seq_objects.proofs.Elements.{each_push}
 
 -- stripe j, which has no piece, is as it was, and is untouched if it is below the number
 pub record IsLeft (stripes : List (List ℕ)) (first count : ℕ) (puts : List ℕ) (found number : ℕ) (rest : List (List ℕ)) (j : ℕ) : Type 0 where
@@ -78,7 +78,7 @@ take_out stripes first count puts found number rest new pieces more mine takes c
     let numbers : numbers_in more ≡ numbers_in pieces ++ number ∷ [] = ap numbers_in is_more ∙ map-append (λ (p : Piece). p.number) pieces (piece ∷ []) ∙ ap (λ k. numbers_in pieces ++ k ∷ []) has.number in
     let other : (j : ℕ) → (j ≡ number → ⊥) → get_or new j [] ≡ get_or rest j [] = λ j apart. ap (λ l. get_or l j []) is_new ∙ get_or-set_other rest number j [] [] apart in
     record {
-      each = rw is_more (all_more (IsPieceOf stripes first count puts found) pieces piece cut.each own);
+      each = rw is_more (each_push (IsPieceOf stripes first count puts found) pieces piece cut.each own);
       all = λ j low. elim (cases_order j number) [
         | inl same ↦ inl (rw (numbers, same) (Contains-append_right (numbers_in pieces) (number ∷ []) number (0, omega arith, refl)))
         | inr apart ↦ elim (cut.all j low) [

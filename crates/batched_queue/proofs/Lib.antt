@@ -1,4 +1,3 @@
-mod Lists
 mod Every
 mod Shares
 mod Serial

@@ -9,7 +9,7 @@ use Rattle.key_sets.specs.Splits.{below, from}
 use Rattle.key_sets.specs.Groups.{starts_of, group_of}
 use Rattle.key_sets.proofs.Filters.{all_filter, all_passed}
 use Rattle.key_sets.proofs.KeyLemmas.Ascending.{all_map}
-use Rattle.key_sets.proofs.KeyLemmas.Sides.{less_or_not, is_less, is_not_less, all_below, all_from, both_sides, ascends_from}
+use Rattle.key_sets.proofs.KeyLemmas.Sides.{is_less, is_not_less, all_below, all_from, both_sides, ascends_from}
 use Rattle.seq_objects.specs.declared.op.Op.{Op}
 use Rattle.batched_tree.specs.Code.Sides.{calls_below, calls_from}
 use Rattle.seq_objects.specs.declared.op.Op.TheVariants.{CounterAdd, Push, Pop, TreeInsert, TreeRemove, TreeFind, TreeNext, PqInsert, PqTake}
@@ -34,12 +34,13 @@ use Rattle.batched_tree.proofs.BeginLemmas.Cuts.{some_key}
 use Rattle.batched_tree.proofs.BeginLemmas.Dealing.{groups_within}
 use Rattle.batched_tree.proofs.BeginLemmas.Ranges.{cut_pieces}
 use Rattle.batched_tree.proofs.ServeLemmas.Halves.{shared, halves_replies, halves_after, set_after, kept}
+use Rattle.std.proofs.lemmas.Bool.{cases_lt}
 
 -- the first piece has the calls below the first start, and the other pieces have the remaining calls
 merged_split : (b : ℕ) (starts : List ℕ) (calls : List Call) (q : List Reply) (qs : List (List Reply))
     → merged_replies (map (λ call. group_of (key_of call) (b ∷ starts)) calls) (q ∷ qs) ≡ shared b calls q (merged_replies (map (λ call. group_of (key_of call) starts) (calls_from b calls)) qs)
 merged_split b starts [] q qs = refl
-merged_split b starts (call ∷ calls) q qs = elim (less_or_not (key_of call) b) [
+merged_split b starts (call ∷ calls) q qs = elim (cases_lt (key_of call) b) [
   | inl less ↦
       let test : nat_lt (argument_of call.op) b ≡ true = grind (arith, nat_tests) in
       rw test (ap (λ rs. get_or q 0 Empty ∷ rs) (merged_split b starts calls (drop 1 q) qs))

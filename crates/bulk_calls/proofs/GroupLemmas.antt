@@ -1,10 +1,10 @@
 -- The number of starts that are at most a key is its group.
-use Rattle.std.proofs.Common.{◌≡◌, ℕ, zero, suc, ◌+◌, ◌-◌, ◌<◌, ◌≤◌, inl, inr, ◌⊎◌, true, false, nat_lt, List, [], ◌∷◌, length, get_or, min, refl, ap, sym, ◌∙◌, arith}
+use Rattle.std.proofs.Common.{◌≡◌, ℕ, zero, suc, ◌<◌, ◌≤◌, inl, inr, true, false, nat_lt, List, [], ◌∷◌, length, get_or, min, refl, ap, sym, ◌∙◌, arith}
 use Rattle.std.specs.List.{AllByRecursion}
 use Rattle.std.proofs.lemmas.Bool.Decides.{nat_tests}
 use Rattle.key_sets.specs.Keys.{StrictlyAscends}
 use Rattle.key_sets.specs.Groups.{group_of}
-use Rattle.key_sets.proofs.KeyLemmas.Sides.{less_or_not}
+use Rattle.std.proofs.lemmas.Bool.{cases_lt}
 use Rattle.bulk_calls.specs.Code.Lookup.{IsFilled, Rises, IsBetween}
 
 -- the place of the first start above a key is its group
@@ -35,7 +35,7 @@ rises_in (start ∷ starts) up (suc i) zero le less = absurd (omega (arith, le))
 rises_in (start ∷ starts) up (suc i) (suc j) le less = rises_in starts up.1 i j (omega (arith, le)) (omega (arith, less))
 
 pub filled_rises : (starts places : List ℕ) → StrictlyAscends starts → ((i : ℕ) → get_or starts i 0 ≤ 4294967295) → IsFilled starts places → Rises places
-filled_rises starts places up small filled i j le less = elim (less_or_not j (length starts)) [
+filled_rises starts places up small filled i j le less = elim (cases_lt j (length starts)) [
   | inl front ↦
       let low = filled.front i (omega (arith, le, front)) in
       let high = filled.front j front in
@@ -45,7 +45,7 @@ filled_rises starts places up small filled i j le less = elim (less_or_not j (le
       rw high (any i (omega (arith, le, less)))
 ] where
   any : (i : ℕ) → i < 15 → get_or places i 0 ≤ 4294967295
-  any i within = elim (less_or_not i (length starts)) [
+  any i within = elim (cases_lt i (length starts)) [
     | inl front ↦ rw (filled.front i front) (small i)
     | inr behind ↦ rw (filled.behind i behind within) (omega arith)
   ]
@@ -53,7 +53,7 @@ filled_rises starts places up small filled i j le less = elim (less_or_not j (le
 -- the group is found
 pub group_found : (key group : ℕ) (starts places : List ℕ) → IsFilled starts places → length starts ≤ 15 → IsBetween key places group 1
     → min group (length starts) ≡ group_of key starts
-group_found key group starts places filled fits between = elim (less_or_not group (length starts)) [
+group_found key group starts places filled fits between = elim (cases_lt group (length starts)) [
   | inl front ↦
       let is : min group (length starts) ≡ group = omega (arith, front) in
       let first : key < get_or places group 0 = between.above group (omega arith) (omega (arith, front, fits)) in

@@ -1,3 +1,3 @@
 mod Numbers
 mod Ranges
-mod Runs
+pub mod Runs

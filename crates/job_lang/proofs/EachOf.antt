@@ -1,11 +1,8 @@
 -- A property of each element of a list holds of each element of its parts, and of lists concatenated from such lists.
-use Rattle.std.proofs.Common.{ℕ, zero, suc, ◌+◌, List, [], ◌∷◌, ◌++◌, take, drop, map, sym, subst}
+use Rattle.std.proofs.Common.{ℕ, zero, suc, ◌+◌, List, [], ◌∷◌, take, drop, sym, subst}
 use Rattle.std.proofs.Math.Seq.{take-add}
 use Rattle.std.specs.List.{AllByRecursion}
-
-pub each_append : {X : Type 0} (P : X → Type 0) (front back : List X) → AllByRecursion P front → AllByRecursion P back → AllByRecursion P (front ++ back)
-each_append P [] back each behind = behind
-each_append P (x ∷ front) back each behind = (each.0, each_append P front back each.1 behind)
+use Rattle.seq_objects.proofs.Elements.{each_append}
 
 pub each_of_first : {X : Type 0} (P : X → Type 0) (n : ℕ) (xs : List X) → AllByRecursion P xs → AllByRecursion P (take n xs)
 each_of_first P zero xs each = tt
@@ -19,7 +16,3 @@ each_of_rest P (suc n) (x ∷ xs) each = each_of_rest P n xs each.1
 
 pub each_of_both : {X : Type 0} (P : X → Type 0) (n m : ℕ) (xs : List X) → AllByRecursion P (take n xs) → AllByRecursion P (take m (drop n xs)) → AllByRecursion P (take (n + m) xs)
 each_of_both P n m xs front back = subst (AllByRecursion P) (sym (take-add n m xs)) (each_append P (take n xs) (take m (drop n xs)) front back)
-
-pub each_before_map : {X Y : Type 0} (P : Y → Type 0) (f : X → Y) (xs : List X) → AllByRecursion P (map f xs) → AllByRecursion (λ x. P (f x)) xs
-each_before_map P f [] each = tt
-each_before_map P f (x ∷ xs) each = (each.0, each_before_map P f xs each.1)

@@ -4,9 +4,9 @@ use Rattle.std.specs.List.{AllByRecursion}
 use Rattle.std.proofs.lemmas.Bool.Decides.{nat_tests}
 use Rattle.std.proofs.lemmas.List.{get_or-set_same, get_or-set_other}
 use Rattle.key_sets.specs.Groups.{group_of}
-use Rattle.key_sets.proofs.KeyLemmas.Sides.{less_or_not}
+use Rattle.std.proofs.lemmas.Bool.{cases_lt}
 use Rattle.keyed_pieces.specs.Dealing.{of_group, HaveReplies}
-use Rattle.keyed_pieces.specs.Keyed.{AscendsBy, AreBelow, AreFrom, AreKeyed, after_each, replies_to_each}
+use Rattle.keyed_pieces.specs.Keyed.{AscendsBy, AreBelow, AreFrom, AreKeyed, replies_to_each}
 use Rattle.keyed_pieces.specs.Ranges.{below, from, ranges, replies_by_range, merged}
 use Rattle.keyed_pieces.proofs.DealLemmas.{same_or_other, is_same, are_apart, have_replies}
 use Rattle.keyed_pieces.proofs.Sides.{all_below, all_from, both_sides, ascends_from, same_next}
@@ -61,7 +61,7 @@ low_replies : {E O R : Type 0} (at : E → ℕ) (key : O → ℕ) (after : List 
     → (b : ℕ) (starts : List ℕ) (ops : List O) (low high : List E) → AreBelow at b low → AreFrom at b high
     → replies_to_each after reply low (below key b ops) ≡ of_group 0 (map (λ op. group_of (key op) (b ∷ starts)) ops) (replies_to_each after reply (low ++ high) ops)
 low_replies at key after reply laws b starts [] low high down up = refl
-low_replies at key after reply laws b starts (op ∷ ops) low high down up = elim (less_or_not (key op) b) [
+low_replies at key after reply laws b starts (op ∷ ops) low high down up = elim (cases_lt (key op) b) [
   | inl less ↦
       let test : nat_lt (key op) b ≡ true = grind (arith, nat_tests) in
       let rest = low_replies at key after reply laws b starts ops (after low op) high (laws.keeps_low b low op less down) up in
@@ -78,7 +78,7 @@ high_replies : {E O R : Type 0} (at : E → ℕ) (key : O → ℕ) (after : List
     → of_group g (map (λ op. group_of (key op) starts) (from key b ops)) (replies_to_each after reply high (from key b ops))
     ≡ of_group (suc g) (map (λ op. group_of (key op) (b ∷ starts)) ops) (replies_to_each after reply (low ++ high) ops)
 high_replies at key after reply laws b starts g [] low high down up = refl
-high_replies {E} {O} {R} at key after reply laws b starts g (op ∷ ops) low high down up = elim (less_or_not (key op) b) [
+high_replies {E} {O} {R} at key after reply laws b starts g (op ∷ ops) low high down up = elim (cases_lt (key op) b) [
   | inl less ↦
       let test : nat_lt (key op) b ≡ true = grind (arith, nat_tests) in
       let first : (0 == suc g) ≡ false = grind (arith, nat_tests) in

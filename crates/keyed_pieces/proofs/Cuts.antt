@@ -1,14 +1,14 @@
 -- Successive cuts of entries at keys.
-use Rattle.std.proofs.Common.{◌≡◌, ℕ, ◌<◌, ◌≤◌, inl, inr, Bool, true, false, not, nat_lt, if◌then◌else◌, List, [], ◌∷◌, ◌++◌, refl, ap, ap₂, sym, ◌∙◌, arith}
+use Rattle.std.proofs.Common.{◌≡◌, ℕ, ◌<◌, inl, inr, Bool, true, false, not, nat_lt, if◌then◌else◌, List, [], ◌∷◌, ◌++◌, refl, ap, ap₂, sym, ◌∙◌, arith}
 use Rattle.std.specs.List.{AllByRecursion}
 use Rattle.std.proofs.lemmas.Bool.Decides.{nat_tests}
-use Rattle.key_sets.proofs.KeyLemmas.Sides.{less_or_not}
+use Rattle.std.proofs.lemmas.Bool.{cases_lt}
 use Rattle.keyed_pieces.specs.Ranges.{below, from, ranges}
 
 -- cutting at two keys, one after the other
 below_twice : {E : Type 0} (at : E → ℕ) (a b : ℕ) (entries : List E) → a < b → below at a (below at b entries) ≡ below at a entries
 below_twice at a b [] less = refl
-below_twice at a b (e ∷ entries) less = elim (less_or_not (at e) b) [
+below_twice at a b (e ∷ entries) less = elim (cases_lt (at e) b) [
   | inl under ↦
       let test : nat_lt (at e) b ≡ true = grind (arith, nat_tests) in
       rw test (ap (λ rest. if nat_lt (at e) a then e ∷ rest else rest) (below_twice at a b entries less))
@@ -20,7 +20,7 @@ below_twice at a b (e ∷ entries) less = elim (less_or_not (at e) b) [
 
 from_twice : {E : Type 0} (at : E → ℕ) (a b : ℕ) (entries : List E) → a < b → from at b (from at a entries) ≡ from at b entries
 from_twice at a b [] less = refl
-from_twice at a b (e ∷ entries) less = elim (less_or_not (at e) a) [
+from_twice at a b (e ∷ entries) less = elim (cases_lt (at e) a) [
   | inl under ↦
       let test : nat_lt (at e) a ≡ true = grind (arith, nat_tests) in
       let test' : nat_lt (at e) b ≡ true = grind (arith, nat_tests, under, less) in

@@ -1,7 +1,7 @@
 -- Serving operations with keys independently on the two sides of a key.
 use Rattle.std.proofs.Common.{◌≡◌, ℕ, inl, inr, true, false, nat_lt, if◌then◌else◌, List, [], ◌∷◌, ◌++◌, get_or, drop, refl, ap, arith}
 use Rattle.std.proofs.lemmas.Bool.Decides.{nat_tests}
-use Rattle.key_sets.proofs.KeyLemmas.Sides.{less_or_not}
+use Rattle.std.proofs.lemmas.Bool.{cases_lt}
 use Rattle.keyed_pieces.specs.Keyed.{AreKeyed, AreBelow, AreFrom, after_each, replies_to_each}
 use Rattle.keyed_pieces.specs.Ranges.{below, from}
 
@@ -15,7 +15,7 @@ pub halves_after : {E O R : Type 0} (at : E → ℕ) (key : O → ℕ) (after : 
     → (b : ℕ) (ops : List O) (low high : List E) → AreBelow at b low → AreFrom at b high
     → after_each after (low ++ high) ops ≡ after_each after low (below key b ops) ++ after_each after high (from key b ops)
 halves_after at key after reply laws b [] low high down up = refl
-halves_after at key after reply laws b (op ∷ ops) low high down up = elim (less_or_not (key op) b) [
+halves_after at key after reply laws b (op ∷ ops) low high down up = elim (cases_lt (key op) b) [
   | inl less ↦
       let test : nat_lt (key op) b ≡ true = grind (arith, nat_tests) in
       let rest = halves_after at key after reply laws b ops (after low op) high (laws.keeps_low b low op less down) up in
@@ -30,7 +30,7 @@ pub halves_replies : {E O R : Type 0} (at : E → ℕ) (key : O → ℕ) (after 
     → (none : R) (b : ℕ) (ops : List O) (low high : List E) → AreBelow at b low → AreFrom at b high
     → replies_to_each after reply (low ++ high) ops ≡ shared none key b ops (replies_to_each after reply low (below key b ops)) (replies_to_each after reply high (from key b ops))
 halves_replies at key after reply laws none b [] low high down up = refl
-halves_replies at key after reply laws none b (op ∷ ops) low high down up = elim (less_or_not (key op) b) [
+halves_replies at key after reply laws none b (op ∷ ops) low high down up = elim (cases_lt (key op) b) [
   | inl less ↦
       let test : nat_lt (key op) b ≡ true = grind (arith, nat_tests) in
       let rest = halves_replies at key after reply laws none b ops (after low op) high (laws.keeps_low b low op less down) up in

@@ -2,7 +2,7 @@
 use Rattle.std.proofs.Common.{◌≡◌, ℕ, inl, inr, true, false, nat_lt, List, [], ◌∷◌, ◌++◌, map, get_or, set, drop, refl, ap, sym, ◌∙◌, append-nil, arith}
 use Rattle.std.proofs.lemmas.Bool.Decides.{nat_tests}
 use Rattle.key_sets.specs.Groups.{group_of}
-use Rattle.key_sets.proofs.KeyLemmas.Sides.{less_or_not}
+use Rattle.std.proofs.lemmas.Bool.{cases_lt}
 use Rattle.keyed_pieces.specs.Keyed.{AscendsBy, AreKeyed, after_each, replies_to_each}
 use Rattle.keyed_pieces.specs.Ranges.{below, from, ranges, side_by_side, after_by_range, replies_by_range, merged}
 use Rattle.keyed_pieces.proofs.Sides.{all_below, all_from, both_sides, ascends_from}
@@ -12,7 +12,7 @@ use Rattle.keyed_pieces.proofs.Halves.{shared, halves_after, halves_replies}
 merged_split : {O R : Type 0} (none : R) (key : O → ℕ) (b : ℕ) (starts : List ℕ) (ops : List O) (q : List R) (qs : List (List R))
     → merged none (map (λ op. group_of (key op) (b ∷ starts)) ops) (q ∷ qs) ≡ shared none key b ops q (merged none (map (λ op. group_of (key op) starts) (from key b ops)) qs)
 merged_split none key b starts [] q qs = refl
-merged_split none key b starts (op ∷ ops) q qs = elim (less_or_not (key op) b) [
+merged_split none key b starts (op ∷ ops) q qs = elim (cases_lt (key op) b) [
   | inl less ↦
       let test : nat_lt (key op) b ≡ true = grind (arith, nat_tests) in
       rw test (ap (λ rs. get_or q 0 none ∷ rs) (merged_split none key b starts ops (drop 1 q) qs))

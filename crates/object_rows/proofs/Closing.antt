@@ -40,7 +40,7 @@ length_all : (objects : Objects) (calls : List Call) → length (replies_to_all 
 length_all objects [] = refl
 length_all objects (call ∷ calls) = omega (arith, length_all (after objects call.op) calls)
 
-length_told : (store : Store) (calls : List Call) → length (store_replies store calls) ≡ length calls
+pub length_told : (store : Store) (calls : List Call) → length (store_replies store calls) ≡ length calls
 length_told store [] = refl
 length_told store (call ∷ calls) = omega (arith, length_told (store_after store call.op) calls)
 

@@ -3,13 +3,6 @@ use Rattle.std.proofs.Common.{◌≡◌, ℕ, ◌<◌, suc, List, [], ◌∷◌,
 use Rattle.seq_objects.specs.Pieces.{AllMeet}
 use Rattle.piece_threads.specs.Code.Bundles.{pieces_in, before_outs, outs_in}
 
-pub meets_more : {In Out : Type 0} (meets : In → Out → Type 0) (ins : List In) (outs : List Out) (input : In) (out : Out)
-    → AllMeet meets ins outs → meets input out → AllMeet meets (ins ++ input ∷ []) (outs ++ out ∷ [])
-meets_more meets [] [] input out all here = (here, tt)
-meets_more meets [] (o ∷ outs) input out all here = absurd all
-meets_more meets (i ∷ ins) [] input out all here = absurd all
-meets_more meets (i ∷ ins) (o ∷ outs) input out all here = (all.0, meets_more meets ins outs input out all.1 here)
-
 pub meets_append : {In Out : Type 0} (meets : In → Out → Type 0) (ins : List In) (outs : List Out) (ins' : List In) (outs' : List Out)
     → AllMeet meets ins outs → AllMeet meets ins' outs' → AllMeet meets (ins ++ ins') (outs ++ outs')
 meets_append meets [] [] ins' outs' all all' = all'

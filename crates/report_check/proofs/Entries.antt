@@ -1,13 +1,12 @@
 -- The entries of a report whose calls are those of a job: how many there are, and what their leaves are below.
-use Rattle.std.proofs.Common.{◌≡◌, ℕ, zero, suc, ◌<◌, ◌≤◌, ◌^◌, Bool, true, false, eqb, ◌||◌, List, [], ◌∷◌, length, refl, sym, subst, ◌∙◌, arith}
+use Rattle.std.proofs.Common.{◌≡◌, ℕ, zero, suc, ◌<◌, ◌≤◌, ◌^◌, List, [], ◌∷◌, length, sym, subst, ◌∙◌, arith}
 use Rattle.std.specs.Prelude.{Contains, IsSomeAnd, slice_get}
-use Rattle.std.specs.List.{AllByRecursion, list_any}
-use Rattle.std.proofs.lemmas.Bool.Decides.{nat_tests}
+use Rattle.std.specs.List.{AllByRecursion}
 use Rattle.std.proofs.lemmas.List.{length-map}
 use Rattle.std.proofs.lemmas.Map.Steps.{length-le_from_distinct_below}
 use Rattle.seq_objects.specs.Pairs.{IsEnumerationOf}
 use Rattle.seq_objects.specs.declared.act.Act.{Act}
-use Rattle.seq_objects.proofs.Elements.{each_so, each_front}
+use Rattle.seq_objects.proofs.Elements.{each_so, each_front, each_at}
 use Rattle.sp_order.specs.Precedence.{leaf_count}
 use Rattle.sp_order.specs.Jobs.{JobValue, IsJob}
 use Rattle.sp_order.specs.Sources.{IsCallLeaf}
@@ -15,18 +14,11 @@ use Rattle.batch_history.specs.Book.{flat}
 use Rattle.batch_history.specs.Lawful.{HasRows, HasCalls, IsInBatch}
 use Rattle.batch_history.specs.declared.batch.Entry.{Entry}
 use Rattle.batch_history.specs.declared.row.Row.{Row}
-use Rattle.batch_history.proofs.BookLemmas.EntryLists.{each_at, distinct_tests}
+use Rattle.batch_history.proofs.BookLemmas.EntryLists.{distinct_tests}
 use Rattle.report_walks.specs.Parts.{report_of, of_calls}
 use Rattle.report_walks.proofs.CallWalk.{leaves_in, leaves_within, call_within}
 use Rattle.report_walks.proofs.RowWalk.{rows_long}
-
-found_step : (n q x : ℕ) (b rest : Bool) → eqb q x ≡ b → (b || rest) ≡ true → x < n → (rest ≡ true → q < n) → q < n
-found_step n q x true rest same found below more = grind (arith, nat_tests)
-found_step n q x false rest other found below more = more found
-
-found_below : (n q : ℕ) (xs : List ℕ) → AllByRecursion (λ x. x < n) xs → list_any (eqb q) xs ≡ true → q < n
-found_below n q [] below found = cc
-found_below n q (x ∷ xs) below found = found_step n q x (eqb q x) (list_any (eqb q) xs) refl found below.0 (found_below n q xs below.1)
+use Rattle.batch_history.proofs.Few.{found_below}
 
 -- there are no more entries than acts
 pub few_entries : (acts : List Act) (entries : List Entry) → IsEnumerationOf (IsCallLeaf acts) (leaves_in entries) → length entries ≤ length acts

@@ -12,7 +12,7 @@ use Rattle.seq_objects.specs.declared.act.Act.{Act}
 use Rattle.seq_objects.specs.declared.act.Act.TheVariants.{Work, Call}
 use Rattle.seq_objects.specs.declared.op.Op.{Op}
 use Rattle.seq_objects.specs.declared.op.Op.TheVariants.{CounterAdd, Push, Pop, TreeInsert, TreeRemove, TreeFind, TreeNext, PqInsert, PqTake}
-use Rattle.seq_objects.proofs.Elements.{each_so}
+use Rattle.seq_objects.proofs.Elements.{each_so, each_both, each_at}
 use Rattle.sp_order.specs.Precedence.{leaf_count}
 use Rattle.sp_order.specs.Jobs.{JobValue}
 use Rattle.sp_order.specs.Sources.{with_value}
@@ -24,24 +24,20 @@ use Rattle.batch_history.specs.Text.{HaveNames}
 use Rattle.batch_history.specs.declared.batch.Entry.{Entry}
 use Rattle.batch_history.specs.declared.report.Report.{Report}
 use Rattle.batch_history.specs.declared.row.Row.{Row}
-use Rattle.batch_history.proofs.ActLemmas.{IsGiven, called_as, narrow}
-use Rattle.batch_history.proofs.BookLemmas.EntryLists.{each_at, each_both}
+use Rattle.batch_history.proofs.ActLemmas.{IsGiven, called_as}
 use Rattle.report_reader.specs.Raw.{FitsEntry, FitsRow, HasOwnObject, IsRaw}
 use Rattle.report_walks.proofs.CallWalk.{leaves_in, leaves_within}
 use Rattle.report_walks.proofs.RowWalk.{rows_long}
 use Rattle.report_walks.proofs.Timed.{row_each, start_each, end_each}
 use Rattle.report_walks.proofs.Walks.{no_row}
 use Rattle.report_check.specs.SmallJobs.{IsSmallJob}
+use Rattle.batch_history.proofs.TallyLemmas.SmallReplies.{given_small}
 
 -- the argument of a call is that of its act, or the low bits of a value
 act_small : (acts : List Act) (leaf : ℕ) (op : Op) → AllByRecursion (λ act. count_of_act argument_of act < 2 ^ 32) acts → slice_get acts leaf ≡ Some (Call op) → argument_of op < 2 ^ 32
 act_small [] leaf op small is = cc
 act_small (act ∷ acts) zero op small is = let same : act ≡ Call op = cc in subst (λ (a : Act). count_of_act argument_of a < 2 ^ 32) same small.0
 act_small (act ∷ acts) (suc leaf) op small is = act_small acts leaf op small.1 is
-
-given_small : (op given : Op) → argument_of given < 2 ^ 32 → IsGiven op given → argument_of op < 2 ^ 32
-given_small op given small (inl same) = subst (λ (o : Op). argument_of o < 2 ^ 32) (sym same) small
-given_small op given small (inr value) = subst (λ (o : Op). argument_of o < 2 ^ 32) (sym value.1) (narrow given value.0)
 
 -- the value of work has 32 bits
 work_small : (steps : ℕ) → spin_of steps < 2 ^ 64

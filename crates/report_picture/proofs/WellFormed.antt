@@ -1,6 +1,6 @@
 -- The text of markup is well-formed.
 use Rattle.std.proofs.Common.{ℕ, zero, suc, ◌≡◌, ◌≢◌, ◌+◌, ◌/◌, ◌%◌, ◌<◌, Bool, true, false, List, [], ◌∷◌, ◌++◌, refl, sym, subst, append_assoc, arith}
-use Rattle.std.specs.Prelude.{codes, IsTrue, ◌&&◌, ◌==◌, if◌then◌else◌, nat_lt}
+use Rattle.std.specs.Prelude.{codes, IsTrue, ◌==◌, if◌then◌else◌, nat_lt}
 use Rattle.std.specs.Fmt.{decimal, digits, digits_onto, digit_glyph}
 use Rattle.batch_history.specs.declared.report.Report.{Report}
 use Rattle.report_picture.specs.Markup.{Part, Say, Number, Tag, Svg, Group, Title, Label, Rect, Path, Key, Namespace, Version, Width, Height, ViewBox, X, Y, Transform, Fill, Stroke, Data, Family, Size, Anchor, Attribute, Markup, Nothing, Words, Element, tag_name, key_name, escaped_byte, escaped, parts_onto, attributes_onto, markup_onto, text_of}
@@ -9,6 +9,7 @@ use Rattle.report_picture.specs.Names.{names_of, are_apart, NamesDiffer}
 use Rattle.report_picture.specs.Picture.{drawing, picture}
 use Rattle.report_picture.proofs.DrawnNames.{names_differ}
 use Rattle.report_picture.proofs.Written.{parts_behind, attributes_behind, markup_behind}
+use Rattle.std.proofs.lemmas.Bool.{and_parts}
 
 both_words : (first second : List ℕ) → AreWords first → AreWords second → AreWords (first ++ second)
 both_words first second no_words are = are
@@ -88,15 +89,10 @@ key_is_name Family = refl
 key_is_name Size = refl
 key_is_name Anchor = refl
 
-both : (a b : Bool) → (a && b) ≡ true → (a ≡ true) × (b ≡ true)
-both true true e = (refl, refl)
-both true false e = cc
-both false b e = cc
-
 are_attributes : (list : List Attribute) → IsTrue (are_apart (names_of list)) → AreAttributes (names_of list) (attributes_onto list [])
 are_attributes [] apart = no_attributes
 are_attributes (attribute ∷ list) apart =
-    let differ = both (is_new (key_name attribute.key) (names_of list)) (are_apart (names_of list)) apart in
+    let differ = and_parts (is_new (key_name attribute.key) (names_of list)) (are_apart (names_of list)) apart in
     let more = codes "\"" ++ attributes_onto list [] in
     let e : parts_onto attribute.value more ≡ parts_onto attribute.value [] ++ more = parts_behind attribute.value [] more in
     subst (λ t. AreAttributes (names_of (attribute ∷ list)) (codes " " ++ (key_name attribute.key ++ (codes "=\"" ++ t)))) (sym e)

@@ -7,7 +7,7 @@ use Rattle.std.proofs.lemmas.List.{append_cancel_left}
 use Rattle.seq_objects.specs.Objects.{number_of}
 use Rattle.seq_objects.specs.Words.{op_words}
 use Rattle.seq_objects.specs.declared.reply.Reply.{Reply}
-use Rattle.seq_objects.proofs.Elements.{each_so}
+use Rattle.seq_objects.proofs.Elements.{each_so, each_left, each_right}
 use Rattle.batch_history.specs.Book.{flat}
 use Rattle.batch_history.specs.Text.{entry_line, batch_lines, book_lines, row_line}
 use Rattle.batch_history.specs.declared.batch.Entry.{Entry}
@@ -26,7 +26,7 @@ use Rattle.report_reader.proofs.CallLines.{place_from, worker_from, leaf_from, b
 use Rattle.report_reader.proofs.Calls.{number_marked}
 use Rattle.report_reader.proofs.Heads.{heads_apart}
 use Rattle.report_reader.proofs.Rows.{one_list}
-use Rattle.report_reader.proofs.Books.{rows_no_line, front, back}
+use Rattle.report_reader.proofs.Books.{rows_no_line}
 
 -- an entry fits, and its object has a mark
 pub record CanTell (names : List (List ℕ)) (entry : Entry) : Type 0 where
@@ -140,10 +140,10 @@ books_apart names names' b ((e ∷ es) ∷ book) [] rows rows' some some' can ca
     absurd (rows_elsewhere names rows' b 0 e (batch_lines names b (0 + 1) es ++ (book_lines names (b + 1) book ++ flat_map row_line rows)) (sym whole ∙ is))
 books_apart names names' b (es ∷ book) (es' ∷ book') rows rows' some some' can can' is =
     let first = batch_apart names names' b 0 es es' (book_lines names (b + 1) book ++ flat_map row_line rows) (book_lines names' (b + 1) book' ++ flat_map row_line rows')
-    (front (CanTell names) es (flat book) can) (front (CanTell names') es' (flat book') can')
-    (next_elsewhere names names' b book rows some.1 (back (CanTell names) es (flat book) can)) (next_elsewhere names' names b book' rows' some'.1 (back (CanTell names') es' (flat book') can'))
+    (each_left (CanTell names) es (flat book) can) (each_left (CanTell names') es' (flat book') can')
+    (next_elsewhere names names' b book rows some.1 (each_right (CanTell names) es (flat book) can)) (next_elsewhere names' names b book' rows' some'.1 (each_right (CanTell names') es' (flat book') can'))
     (sym (append_assoc (batch_lines names b 0 es) (book_lines names (b + 1) book) (flat_map row_line rows)) ∙ is ∙ append_assoc (batch_lines names' b 0 es') (book_lines names' (b + 1) book') (flat_map row_line rows')) in
-    let more = books_apart names names' (b + 1) book book' rows rows' some.1 some'.1 (back (CanTell names) es (flat book) can) (back (CanTell names') es' (flat book') can') first.1 in
+    let more = books_apart names names' (b + 1) book book' rows rows' some.1 some'.1 (each_right (CanTell names) es (flat book) can) (each_right (CanTell names') es' (flat book') can') first.1 in
     (same_book (map (worded names) es) (map (worded names') es') (map (λ batch. map (worded names) batch) book) (map (λ batch. map (worded names') batch) book') first.0 more.0, more.1)
 
 tell_both : (names : List (List ℕ)) (entries : List Entry) → AllByRecursion FitsEntry entries → AllByRecursion (λ (entry : Entry). is_mark (mark_of names entry.op) ≡ true) entries → Tells names entries

@@ -20,6 +20,7 @@ use Rattle.report_reader.proofs.Fields.{some_length}
 use Rattle.report_reader.proofs.Operations.{verb_of}
 use Rattle.report_reader.proofs.CallLines.{place_from, line_whole, line_of, call_marked, line_at, one_line}
 use Rattle.report_reader.proofs.Rows.{worker_from, row_whole}
+use Rattle.seq_objects.proofs.Elements.{each_append, each_left, each_right}
 
 -- the line of a call is not empty
 some_line : (line : Line) (mark rest : List ℕ) → line_text line mark ++ rest ≡ [] → ⊥
@@ -86,7 +87,7 @@ book_numbered names b (es ∷ book) =
     ap (λ t. t ++ book_lines names (b + 1) book) (batch_numbered names b 0 es) ∙ ap (λ t. flat_map (call_line names) (numbered_batch b 0 es) ++ t) (book_numbered names (b + 1) book)
     ∙ sym (flat_map-append (call_line names) (numbered_batch b 0 es) (numbered_book (b + 1) book))
 
-few_batch_calls : (names : List (List ℕ)) (b p : ℕ) (es : List Entry) → length es ≤ length (batch_lines names b p es)
+pub few_batch_calls : (names : List (List ℕ)) (b p : ℕ) (es : List Entry) → length es ≤ length (batch_lines names b p es)
 few_batch_calls names b p [] = omega arith
 few_batch_calls names b p (e ∷ es) =
     omega (arith, length-append (entry_line names b p e) (batch_lines names b (p + 1) es), few_batch_calls names b (p + 1) es, long_call names (record { batch = b; place = p; entry = e }))
@@ -110,19 +111,6 @@ few_batches [] some = omega arith
 few_batches ([] ∷ book) some = absurd (some.0 refl)
 few_batches ((e ∷ es) ∷ book) some = omega (arith, length-append (e ∷ es) (flat book), few_batches book some.1)
 
--- what holds of the elements of two lists together
-both : {A : Type 0} (P : A → Type 0) (xs ys : List A) → AllByRecursion P xs → AllByRecursion P ys → AllByRecursion P (xs ++ ys)
-both P [] ys all all' = all'
-both P (x ∷ xs) ys all all' = (all.0, both P xs ys all.1 all')
-
-pub front : {A : Type 0} (P : A → Type 0) (xs ys : List A) → AllByRecursion P (xs ++ ys) → AllByRecursion P xs
-front P [] ys all = tt
-front P (x ∷ xs) ys all = (all.0, front P xs ys all.1)
-
-pub back : {A : Type 0} (P : A → Type 0) (xs ys : List A) → AllByRecursion P (xs ++ ys) → AllByRecursion P ys
-back P [] ys all = all
-back P (x ∷ xs) ys all = back P xs ys all.1
-
 -- the calls of a book fit, where its entries fit and it has not too many
 batch_fits : (b p : ℕ) (es : List Entry) → b < 2 ^ 64 → p + length es ≤ 2 ^ 64 → AllByRecursion FitsEntry es → AllByRecursion FitsCall (numbered_batch b p es)
 batch_fits b p [] small few fits = tt
@@ -132,9 +120,9 @@ pub book_fits : (b : ℕ) (book : List (List Entry)) → b + length book ≤ 2 ^
 book_fits b [] small few fits = tt
 book_fits b (es ∷ book) small few fits =
     let whole = length-append es (flat book) in
-    both FitsCall (numbered_batch b 0 es) (numbered_book (b + 1) book)
-    (batch_fits b 0 es (omega (arith, small)) (omega (arith, few, whole)) (front FitsEntry es (flat book) fits))
-    (book_fits (b + 1) book (omega (arith, small)) (omega (arith, few, whole)) (back FitsEntry es (flat book) fits))
+    each_append FitsCall (numbered_batch b 0 es) (numbered_book (b + 1) book)
+    (batch_fits b 0 es (omega (arith, small)) (omega (arith, few, whole)) (each_left FitsEntry es (flat book) fits))
+    (book_fits (b + 1) book (omega (arith, small)) (omega (arith, few, whole)) (each_right FitsEntry es (flat book) fits))
 
 -- the entries of a book fit, where its calls do
 batch_entries : (b p : ℕ) (es : List Entry) → AllByRecursion FitsCall (numbered_batch b p es) → AllByRecursion FitsEntry es
@@ -144,8 +132,8 @@ batch_entries b p (e ∷ es) fits = (fits.0.entry, batch_entries b (p + 1) es fi
 pub book_entries : (b : ℕ) (book : List (List Entry)) → AllByRecursion FitsCall (numbered_book b book) → AllByRecursion FitsEntry (flat book)
 book_entries b [] fits = tt
 book_entries b (es ∷ book) fits =
-    both FitsEntry es (flat book) (batch_entries b 0 es (front FitsCall (numbered_batch b 0 es) (numbered_book (b + 1) book) fits))
-    (book_entries (b + 1) book (back FitsCall (numbered_batch b 0 es) (numbered_book (b + 1) book) fits))
+    each_append FitsEntry es (flat book) (batch_entries b 0 es (each_left FitsCall (numbered_batch b 0 es) (numbered_book (b + 1) book) fits))
+    (book_entries (b + 1) book (each_right FitsCall (numbered_batch b 0 es) (numbered_book (b + 1) book) fits))
 
 -- the entries of a book, by what holds of each of its calls
 batch_all : (P : Entry → Type 0) (b p : ℕ) (es : List Entry) → AllByRecursion P es → AllByRecursion (λ (call : Numbered). P call.entry) (numbered_batch b p es)
@@ -155,7 +143,7 @@ batch_all P b p (e ∷ es) all = (all.0, batch_all P b (p + 1) es all.1)
 pub book_all : (P : Entry → Type 0) (b : ℕ) (book : List (List Entry)) → AllByRecursion P (flat book) → AllByRecursion (λ (call : Numbered). P call.entry) (numbered_book b book)
 book_all P b [] all = tt
 book_all P b (es ∷ book) all =
-    both (λ (call : Numbered). P call.entry) (numbered_batch b 0 es) (numbered_book (b + 1) book) (batch_all P b 0 es (front P es (flat book) all)) (book_all P (b + 1) book (back P es (flat book) all))
+    each_append (λ (call : Numbered). P call.entry) (numbered_batch b 0 es) (numbered_book (b + 1) book) (batch_all P b 0 es (each_left P es (flat book) all)) (book_all P (b + 1) book (each_right P es (flat book) all))
 
 batch_every : (P : Entry → Type 0) (b p : ℕ) (es : List Entry) → AllByRecursion (λ (call : Numbered). P call.entry) (numbered_batch b p es) → AllByRecursion P es
 batch_every P b p [] all = tt
@@ -164,8 +152,8 @@ batch_every P b p (e ∷ es) all = (all.0, batch_every P b (p + 1) es all.1)
 pub book_every : (P : Entry → Type 0) (b : ℕ) (book : List (List Entry)) → AllByRecursion (λ (call : Numbered). P call.entry) (numbered_book b book) → AllByRecursion P (flat book)
 book_every P b [] all = tt
 book_every P b (es ∷ book) all =
-    both P es (flat book) (batch_every P b 0 es (front (λ (call : Numbered). P call.entry) (numbered_batch b 0 es) (numbered_book (b + 1) book) all))
-    (book_every P (b + 1) book (back (λ (call : Numbered). P call.entry) (numbered_batch b 0 es) (numbered_book (b + 1) book) all))
+    each_append P es (flat book) (batch_every P b 0 es (each_left (λ (call : Numbered). P call.entry) (numbered_batch b 0 es) (numbered_book (b + 1) book) all))
+    (book_every P (b + 1) book (each_right (λ (call : Numbered). P call.entry) (numbered_batch b 0 es) (numbered_book (b + 1) book) all))
 
 -- each call that is read takes some of the text
 pub shorter : (table : Table) (text : List ℕ) (call : Numbered) (rest : List ℕ) → IsCallThen table text call rest → length rest < length text

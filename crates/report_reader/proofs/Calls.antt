@@ -18,6 +18,7 @@ use Rattle.report_reader.specs.declared.table.Table.{Table}
 use Rattle.report_reader.proofs.Operations.{number_back, own_kind}
 use Rattle.report_reader.proofs.CallLines.{line_of, call_marked, call_fits, line_back}
 use Rattle.report_reader.proofs.Growing.{mark_parts}
+use Rattle.seq_objects.proofs.Elements.{each_push}
 
 -- the mark of a number is that of its name
 pub words_at : (names : List (List ℕ)) (number : ℕ) → 0 < number → name_words names number ≡ 58 ∷ name_of_number names number
@@ -109,10 +110,6 @@ module _ (old new : Table) (kept : IsKept old) (extends : Extends old new) where
   lines_stay [] has = refl
   lines_stay (call ∷ calls) has = ap (λ (t : List ℕ). t ++ flat_map (call_line (names_in new)) calls) (line_stays call has.0) ∙ ap (λ (t : List ℕ). call_line (names_in old) call ++ t) (lines_stay calls has.1)
 
-all_push : {A : Type 0} (P : A → Type 0) (xs : List A) (x : A) → AllByRecursion P xs → P x → AllByRecursion P (xs ++ x ∷ [])
-all_push P [] x all one = (one, tt)
-all_push P (y ∷ xs) x all one = (all.0, all_push P xs x all.1 one)
-
 -- what was read of a text so far, and what is left
 pub record HaveRead (table : Table) (text : List ℕ) (calls : List Numbered) (rest : List ℕ) : Type 0 where
   pub kept : IsKept table
@@ -141,8 +138,8 @@ read_more table text calls rest call more read is = record {
       ∙ append_assoc (flat_map (call_line (names_in table)) calls) (call_line (names_in table) call ++ []) more
       ∙ ap (λ (t : List ℕ). flat_map (call_line (names_in table)) calls ++ t) (ap (λ (t : List ℕ). t ++ more) (append-nil (call_line (names_in table) call)) ∙ is.written)
       ∙ read.written;
-  fits = all_push FitsCall calls call read.fits is.fits;
-  has = all_push (λ (c : Numbered). IsFound table c.entry.op) calls call read.has is.found;
+  fits = each_push FitsCall calls call read.fits is.fits;
+  has = each_push (λ (c : Numbered). IsFound table c.entry.op) calls call read.has is.found;
 }
 
 -- where no line of a known call follows, these are the calls

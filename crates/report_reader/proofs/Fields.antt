@@ -41,12 +41,6 @@ apart m n r s ends ends' is = digits_apart (decimal m) (decimal n) r s (decimal_
 pub field_apart : (words : List ℕ) (m n : ℕ) (r s : List ℕ) → BeginsNoDigit r → BeginsNoDigit s → words ++ (decimal m ++ r) ≡ words ++ (decimal n ++ s) → (decimal m ≡ decimal n) × (r ≡ s)
 field_apart words m n r s ends ends' is = apart m n r s ends ends' (append_cancel_left words (decimal m ++ r) (decimal n ++ s) is)
 
--- two numbers that a text begins with are one, with one rest
-pub one_way : (most : ℕ) (text : List ℕ) (m n : ℕ) (r s : List ℕ) → most < 2 ^ 64 → IsDecimalThen most text m r → IsDecimalThen most text n s → (m ≡ n) × (r ≡ s)
-one_way most text m n r s small a b =
-    let parts = apart m n r s a.ends b.ends (a.written ∙ sym b.written) in
-    (decimal_injective m n (omega (arith, a.within)) (omega (arith, b.within)) parts.0, parts.1)
-
 -- a text that is the words, a decimal and then the rest
 pub written_of : {words : List ℕ} {most : ℕ} {text : List ℕ} {n : ℕ} {rest : List ℕ} → IsFieldThen words most text n rest → words ++ (decimal n ++ rest) ≡ text
 written_of {words = words} is = ap (λ (t : List ℕ). words ++ t) is.read.written ∙ is.starts

@@ -1,24 +1,19 @@
 -- Tables that grow by a name, and what they keep.
-use Rattle.std.proofs.Common.{◌≡◌, ℕ, ◌+◌, ◌-◌, ◌<◌, ◌≤◌, ◌⊎◌, inl, inr, Bool, true, false, List, [], ◌∷◌, ◌++◌, length, map, replicate, get_or, Some, None, refl, sym, ap, subst, ◌∙◌, append-nil, length-append, arith}
-use Rattle.std.specs.Prelude.{◌==◌, ◌&&◌, nat_le}
-use Rattle.std.specs.List.{AllByRecursion, list_all}
+use Rattle.std.proofs.Common.{◌≡◌, ℕ, ◌+◌, ◌-◌, ◌<◌, ◌≤◌, ◌⊎◌, inl, inr, true, List, [], ◌∷◌, ◌++◌, length, map, get_or, Some, None, refl, sym, ap, subst, ◌∙◌, append-nil, length-append, arith}
+use Rattle.std.specs.Prelude.{◌==◌, nat_le}
+use Rattle.std.specs.List.{list_all}
 use Rattle.std.proofs.lemmas.Bool.Decides.{nat_tests}
 use Rattle.std.proofs.lemmas.List.{map-append, length-map, get_or_append_left}
-use Rattle.std.proofs.Math.Seq.{take-append_seam, get_or-append_seam}
+use Rattle.std.proofs.Math.Seq.{get_or-append_seam}
 use Rattle.job_names.specs.Names.{AreSpelled, is_letter, is_in_name, is_spelled, name_of, spelling}
 use Rattle.job_names.specs.declared.name.Name.{Name}
 use Rattle.sp_order.specs.Objects.{name_of_number}
 use Rattle.report_reader.specs.Code.Objects.{is_mark, names_in, number_in, found, IsKept, Extends}
 use Rattle.report_reader.specs.declared.object.Kind.{Kind}
 use Rattle.report_reader.specs.declared.table.Table.{Table}
-
-and_left : (a b : Bool) → (a && b) ≡ true → a ≡ true
-and_left true b h = refl
-and_left false b h = h
-
-and_right : (a b : Bool) → (a && b) ≡ true → b ≡ true
-and_right true b h = h
-and_right false b h = cc
+use Rattle.job_names.proofs.SameNames.{and_left, and_right}
+use Rattle.job_names.proofs.Spellings.{spelling_back, one_spelling}
+use Rattle.seq_objects.proofs.Elements.{each_append}
 
 at_most : (n m : ℕ) → nat_le n m ≡ true → n ≤ m
 at_most n m e = grind (arith, e)
@@ -27,17 +22,6 @@ at_most n m e = grind (arith, e)
 pub spelled_short : (text : List ℕ) → is_spelled text ≡ true → length text ≤ 32
 spelled_short [] is = omega arith
 spelled_short (byte ∷ text) is = let few = at_most (length text) 31 (and_left _ (list_all (λ byte. is_in_name byte) text) (and_right (is_letter byte) _ is)) in omega (arith, few)
-
-pub spelling_back : (text : List ℕ) → spelling (name_of text) ≡ text
-spelling_back text = take-append_seam text (replicate (32 - length text) 0)
-
--- two names of one text are spelled alike
-pub one_spelling : (text text' : List ℕ) → name_of text ≡ name_of text' → text ≡ text'
-one_spelling text text' same = sym (spelling_back text) ∙ ap spelling same ∙ spelling_back text'
-
-all_more : (P : List ℕ → Type 0) (xs ys : List (List ℕ)) → AllByRecursion P xs → AllByRecursion P ys → AllByRecursion P (xs ++ ys)
-all_more P [] ys all more = more
-all_more P (x ∷ xs) ys all more = (all.0, all_more P xs ys all.1 more)
 
 -- the new table has one name more, under the next number
 pub record AddsName (old new : Table) (kind : Kind) (name : List ℕ) (number : ℕ) : Type 0 where
@@ -72,7 +56,7 @@ module _ (old new : Table) (kind : Kind) (name : List ℕ) (number : ℕ) (spell
 
   pub kept_more : IsKept old → IsKept new
   kept_more kept = record {
-    spelled = subst AreSpelled (sym names_more) (all_more (λ text. is_spelled text ≡ true) (names_in old) (name ∷ []) kept.spelled (spelled, tt));
+    spelled = subst AreSpelled (sym names_more) (each_append (λ text. is_spelled text ≡ true) (names_in old) (name ∷ []) kept.spelled (spelled, tt));
     numbers = λ k name' n spelled' is. elim (adds.others k (name_of name')) [
       | inl same ↦
           let is_own : number_in new kind (name_of name) ≡ Some n = subst (λ (q : Kind). number_in new q (name_of name) ≡ Some n) same.0 (subst (λ (m : Name). number_in new k m ≡ Some n) same.1 is) in

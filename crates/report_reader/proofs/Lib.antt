@@ -7,9 +7,9 @@ mod Operations
 mod Replies
 mod Heads
 mod CallLines
-mod Rows
+pub mod Rows
 mod Calls
-mod Books
+pub mod Books
 mod Groups
 mod Reports
 mod Jobs

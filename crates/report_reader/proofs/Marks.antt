@@ -1,6 +1,6 @@
 -- Kind words, and the marks behind them, which a text begins with in one way.
 use Rattle.std.proofs.Common.{◌≡◌, ℕ, ◌+◌, ◌≤◌, Bool, true, false, List, [], ◌∷◌, ◌++◌, length, take, drop, get_or, refl, sym, ap, ◌∙◌, one-add, arith}
-use Rattle.std.specs.Prelude.{cond, not, ◌==◌, ◌&&◌, if◌then◌else◌}
+use Rattle.std.specs.Prelude.{cond, not, ◌==◌, if◌then◌else◌}
 use Rattle.std.specs.List.{prefix_len, list_all, AllByRecursion}
 use Rattle.std.proofs.lemmas.Bool.Decides.{nat_tests}
 use Rattle.std.proofs.lemmas.Grind.{common_steps}
@@ -10,6 +10,7 @@ use Rattle.job_names.specs.Names.{is_letter, is_in_name, is_spelled}
 use Rattle.report_reader.specs.Code.Objects.{kind_text, is_mark, BeginsBlank, IsMarkThen}
 use Rattle.report_reader.specs.declared.object.Kind.{Kind}
 use Rattle.report_reader.specs.declared.object.Kind.TheVariants.{Counter, Stack, Tree, Queue}
+use Rattle.job_names.proofs.SameNames.{and_left, and_right}
 
 -- the kind whose word begins with this byte
 kind_with : ℕ → Kind
@@ -42,14 +43,6 @@ lacks_kinds text counter stack tree queue Queue rest is = queue rest is
 -- no byte is a blank
 abbrev pub NoBlank : List ℕ → Type 0
 NoBlank text = AllByRecursion (λ byte. (byte == 32) ≡ false) text
-
-and_left : (a b : Bool) → (a && b) ≡ true → a ≡ true
-and_left true b h = refl
-and_left false b h = h
-
-and_right : (a b : Bool) → (a && b) ≡ true → b ≡ true
-and_right true b h = h
-and_right false b h = cc
 
 letter_no_blank : (byte : ℕ) → is_letter byte ≡ true → (byte == 32) ≡ false
 letter_no_blank byte is = grind (arith, common_steps, nat_tests, is)

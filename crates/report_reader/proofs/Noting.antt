@@ -16,7 +16,7 @@ use Rattle.report_reader.specs.Code.Objects.{kind_of_op, names_in, number_in, fo
 use Rattle.report_reader.specs.declared.object.Kind.{Kind}
 use Rattle.report_reader.specs.declared.table.Table.{Table}
 use Rattle.report_reader.proofs.Calls.{words_at}
-use Rattle.report_reader.proofs.Growing.{one_spelling}
+use Rattle.job_names.proofs.Spellings.{one_spelling}
 use Rattle.report_reader.proofs.Jobs.{to_kind}
 
 -- no number is used but those used before and those to the count
@@ -102,7 +102,7 @@ contained P [] act all (k, low, is) = absurd (omega (arith, low))
 contained P (x ∷ acts) act all (zero, low, is) = subst P is all.0
 contained P (x ∷ acts) act all (suc k, low, is) = contained P acts act all.1 (k, omega (arith, low), is)
 
-place_of_act : (acts : List Act) (act : Act) → Contains acts act → (u : ℕ) × (slice_get acts u ≡ Some act)
+pub place_of_act : (acts : List Act) (act : Act) → Contains acts act → (u : ℕ) × (slice_get acts u ≡ Some act)
 place_of_act acts act (k, low, is) = (k, slice_get-get_or acts k act low ∙ ap Some is)
 
 -- a table that has noted all acts of a job is that of the job

@@ -1,13 +1,11 @@
 -- No two raw reports of a job have one text.
-use Rattle.std.proofs.Common.{◌≡◌, ◌≢◌, ℕ, zero, suc, ◌<◌, ◌^◌, inl, inr, true, List, [], ◌∷◌, ◌++◌, map, Some, refl, sym, ap, ◌∙◌, codes, arith}
-use Rattle.std.specs.Prelude.{Contains, slice_get, IfOk, Result, Ok, Err}
+use Rattle.std.proofs.Common.{◌≡◌, ◌≢◌, ℕ, zero, suc, ◌<◌, ◌^◌, inl, inr, true, List, [], ◌∷◌, ◌++◌, map, refl, sym, ap, ◌∙◌, codes, arith}
+use Rattle.std.specs.Prelude.{IfOk, Result, Ok, Err}
 use Rattle.std.specs.List.{AllByRecursion}
 use Rattle.std.proofs.lemmas.Bool.{cases_order}
-use Rattle.std.proofs.lemmas.Option.{slice_get-get_or}
 use Rattle.seq_objects.specs.Batches.{kind_of}
 use Rattle.seq_objects.specs.Objects.{argument_of, number_of}
 use Rattle.seq_objects.specs.Words.{op_words, name_words}
-use Rattle.seq_objects.specs.declared.act.Act.{Act}
 use Rattle.seq_objects.specs.declared.act.Act.TheVariants.{Call}
 use Rattle.seq_objects.specs.declared.op.Op.{Op}
 use Rattle.seq_objects.specs.declared.reply.Reply.{Reply}
@@ -26,13 +24,10 @@ use Rattle.report_reader.specs.declared.error.ReadReportErr.TheVariants.{NoRepor
 use Rattle.report_reader.specs.declared.operation.Spoken.{Spoken}
 use Rattle.report_reader.proofs.Operations.{verb_of, spoken_of, own_kind, words_parts, op_back, argument_fits, one_op}
 use Rattle.report_reader.proofs.Calls.{words_at, number_marked}
-use Rattle.report_reader.proofs.Books.{front, back}
 use Rattle.report_reader.proofs.Jobs.{to_kind, named_text}
 use Rattle.report_reader.proofs.Alike.{alike}
-
--- the place of an act among those of a job
-act_at : (acts : List Act) (act : Act) → Contains acts act → (u : ℕ) × (slice_get acts u ≡ Some act)
-act_at acts act (k, low, is) = (k, slice_get-get_or acts k act low ∙ ap Some is)
+use Rattle.seq_objects.proofs.Elements.{each_left, each_right}
+use Rattle.report_reader.proofs.Noting.{place_of_act}
 
 module _ (job : JobValue) (is_job : IsJob job) where
   -- objects of one kind and one mark have one number
@@ -51,8 +46,8 @@ module _ (job : JobValue) (is_job : IsJob job) where
           let some' : 0 < number_of o' = omega (arith, at') in
           let call = own.called some in
           let call' = own'.called some' in
-          let place = act_at job.acts (Call call.by) call.among in
-          let place' = act_at job.acts (Call call'.by) call'.among in
+          let place = place_of_act job.acts (Call call.by) call.among in
+          let place' = place_of_act job.acts (Call call'.by) call'.among in
           let names : name_of_number job.names (suc m) ≡ name_of_number job.names (suc n) =
           (let words : 58 ∷ name_of_number job.names (suc m) ≡ 58 ∷ name_of_number job.names (suc n) = sym (words_at job.names (suc m) (omega arith)) ∙ mark ∙ words_at job.names (suc n) (omega arith) in cc (words)) in
           is_job.objects.apart place.0 place'.0 call.by call'.by place.1 place'.1 (omega (arith, call.number, some)) (omega (arith, call'.number, some')) (call.kind ∙ kind ∙ sym call'.kind)
@@ -107,8 +102,8 @@ module _ (job : JobValue) (is_job : IsJob job) where
       let first : map (worded job.names) es ≡ map (worded job.names) es' = cc in
       let tail : map (λ batch. map (worded job.names) batch) book ≡ map (λ batch. map (worded job.names) batch) book' = cc in
       let P : Entry → Type 0 = λ entry. HasOwnObject job entry.op in
-      let batch = one_batch es es' (front FitsEntry es (flat book) fits) (front FitsEntry es' (flat book') fits') (front P es (flat book) own) (front P es' (flat book') own') first in
-      let more = one_book book book' (back FitsEntry es (flat book) fits) (back FitsEntry es' (flat book') fits') (back P es (flat book) own) (back P es' (flat book') own') tail in
+      let batch = one_batch es es' (each_left FitsEntry es (flat book) fits) (each_left FitsEntry es' (flat book') fits') (each_left P es (flat book) own) (each_left P es' (flat book') own') first in
+      let more = one_book book book' (each_right FitsEntry es (flat book) fits) (each_right FitsEntry es' (flat book') fits') (each_right P es (flat book) own) (each_right P es' (flat book') own') tail in
       cc (batch, more)
 
   same_report : (w w' : ℕ) (h h' : List (List Entry)) (r r' : List Row) → w ≡ w' → h ≡ h' → r ≡ r' → ◌≡◌ {A = Report} (record { workers = w; history = h; rows = r }) (record { workers = w'; history = h'; rows = r' })

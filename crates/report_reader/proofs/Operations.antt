@@ -15,8 +15,9 @@ use Rattle.report_reader.specs.declared.operation.Spoken.{Spoken}
 use Rattle.report_reader.specs.Code.Objects.{kind_of_op, kind_text, mark_of, BeginsBlank, IsMarkThen}
 use Rattle.report_reader.specs.Code.Operations.{kind_of_verb, verb_text, argument_text, op_of_verb, spoken_words, IsVerbThen, IsArgument, IsArgumentThen, IsOpThen}
 use Rattle.report_reader.proofs.Digits.{Digits, decimal_digits}
-use Rattle.report_reader.proofs.Fields.{small, one_way}
+use Rattle.report_reader.proofs.Fields.{small}
 use Rattle.report_reader.proofs.Marks.{kind_way, mark_way}
+use Rattle.decimals.proofs.Runs.{one_way}
 
 -- the verb of an operation
 abbrev pub verb_of : Op → Verb

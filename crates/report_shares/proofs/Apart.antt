@@ -10,7 +10,8 @@ use Rattle.batch_history.specs.declared.report.Report.{Report}
 use Rattle.report_shares.specs.Shares.{edge, lasts_in, calls, works, calls_in, share_in, lane_shares, shares_of}
 use Rattle.report_shares.specs.Meaning.{FitColumns}
 use Rattle.report_shares.specs.declared.share.Share.{Share}
-use Rattle.report_shares.proofs.Totals.{same_number, lasts_for, both}
+use Rattle.report_shares.proofs.Totals.{lasts_for, both}
+use Rattle.seq_objects.proofs.Numbers.{same_number}
 
 -- of two rows of one worker one ends before the other starts
 abbrev Apart : Row → Row → Type 0

@@ -1,16 +1,13 @@
 -- The set of the leaves that call.
-use Rattle.std.proofs.Common.{◌≡◌, ℕ, ◌+◌, ◌<◌, ◌||◌, ◌==◌, Bool, true, false, List, ◌∷◌, length, take, drop, get_or, cond, refl, sym, ap, ◌∙◌, arith, drop-cons, add-one}
-use Rattle.std.specs.Ordering.{nat_cmp, is_eq}
+use Rattle.std.proofs.Common.{◌≡◌, ℕ, ◌+◌, ◌<◌, ◌||◌, ◌==◌, Bool, true, false, List, ◌∷◌, length, take, drop, get_or, cond, refl, sym, ap, ◌∙◌, drop-cons, add-one}
+use Rattle.std.specs.Ordering.{nat_cmp}
 use Rattle.std.specs.BTreeMap.{is_at}
-use Rattle.std.proofs.lemmas.Bool.Decides.{nat_tests}
 use Rattle.std.proofs.lemmas.List.Folds.{list_any_more, list_any-append}
 use Rattle.batch_history.specs.Book.{flat}
 use Rattle.batch_history.specs.declared.batch.Entry.{Entry}
 use Rattle.report_shares.specs.Shares.{calls}
 use Rattle.report_shares.specs.Code.{is_among}
-
-same_test : (m n : ℕ) → is_eq (nat_cmp m n) ≡ (m == n)
-same_test m n = grind (arith, nat_tests)
+use Rattle.seq_objects.proofs.Keys.{same_test}
 
 chosen : (test old among : Bool) → cond test true (old || among) ≡ (old || (among || test))
 chosen true true among = refl

@@ -2,10 +2,7 @@
 use Rattle.std.proofs.Common.{ℕ, zero, suc, ◌≡◌, ◌≢◌, ◌+◌, ◌*◌, ◌-◌, ◌==◌, ◌&&◌, ◌<◌, ◌≤◌, Bool, true, false, not, cond, min, max, List, [], ◌∷◌, map, refl, sym, ap, ◌∙◌, arith, length}
 use Rattle.std.specs.List.{AllByRecursion, filter, flat_map, range_with_len, sum_by}
 use Rattle.std.proofs.lemmas.List.Sums.{sum_by-cons, sum_by-append}
-use Rattle.std.proofs.lemmas.Grind.{common_steps}
-use Rattle.std.proofs.lemmas.List.FromFn.{length-range_with_len}
 use Rattle.sp_order.specs.Jobs.{JobValue}
-use Rattle.sp_order.specs.Precedence.{leaf_count}
 use Rattle.batch_history.specs.Lawful.{Lawful, ticks_of}
 use Rattle.batch_history.specs.declared.row.Row.{Row}
 use Rattle.batch_history.specs.declared.report.Report.{Report}
@@ -13,9 +10,8 @@ use Rattle.report_shares.specs.Shares.{edge, lasts_in, ticks_in, calls, works, c
 use Rattle.report_shares.specs.Meaning.{AreAllTicks}
 use Rattle.report_shares.specs.declared.share.Share.{Share}
 use Rattle.report_shares.proofs.Edges.{take_each_tick}
-
-pub same_number : (m n : ℕ) → (m == n) ≡ true → m ≡ n
-same_number m n e = grind (arith, e)
+use Rattle.seq_objects.proofs.Numbers.{same_number}
+use Rattle.batch_history.proofs.TallyLemmas.Pairs.{rows_long}
 
 unlike : (m n : ℕ) → (m == n) ≡ false → m ≢ n
 unlike m n e same = grind (arith, e, same)
@@ -180,10 +176,6 @@ whole workers ticks (row ∷ rows) are =
     let e : lasts_in 0 ticks row ≡ row.end - row.start = omega (arith, are.0.ends) in
     (h ∙ e, whole workers ticks rows are.1)
 
-as_many : (job : JobValue) (workers : ℕ) (report : Report) → Lawful job workers report → length report.rows ≡ leaf_count job.shape
-as_many job workers report lawful =
-    (let e : length (map (λ row. row.leaf) report.rows) ≡ length report.rows = grind (arith, common_steps) in sym e) ∙ (ap length lawful.rows.leaves ∙ length-range_with_len 0 (leaf_count job.shape))
-
 pub are_all_ticks : (job : JobValue) (workers : ℕ) (report : Report) → Lawful job workers report → AreAllTicks report
 unfolding shares_of
 are_all_ticks job workers report lawful =
@@ -195,7 +187,7 @@ are_all_ticks job workers report lawful =
     let part : ℕ → Row → ℕ = λ worker row. cond (row.worker == worker) (lasts_in 0 ticks row) 0 in
     let names = lawful.rows.names in
     let among : AllByRecursion (λ row. row.worker < report.workers) rows = rw (← names) at lawful.rows.among in
-    let ends : AllByRecursion (λ tick. tick < ticks) (ticks_of rows) = rw (← as_many job workers report lawful) at lawful.rows.ticks.only in
+    let ends : AllByRecursion (λ tick. tick < ticks) (ticks_of rows) = rw (← rows_long job workers report lawful) at lawful.rows.ticks.only in
     flat_sum done lane all
     ∙ (same_sums (λ worker. sum_by done (lane worker)) (λ worker. sum_by (part worker) rows) all
     (always (λ worker. sum_by done (lane worker) ≡ sum_by (part worker) rows) (lane_total report) all)

@@ -10,7 +10,7 @@ use Rattle.std.proofs.lemmas.Option.{slice_get-get_or}
 use Rattle.seq_objects.specs.BatchOrder.{ComesFirst}
 use Rattle.seq_objects.specs.Pairs.{AllPairsByRecursion, AreDistinct}
 use Rattle.seq_objects.proofs.CallOrder.{first_through}
-use Rattle.seq_objects.proofs.Elements.{each_so, each_front}
+use Rattle.seq_objects.proofs.Elements.{each_so, each_at, distinct_front, distinct_back}
 use Rattle.sp_order.specs.Jobs.{JobValue, IsJob}
 use Rattle.sp_order.specs.Sources.{IsCallLeaf}
 use Rattle.batch_history.specs.Book.{flat, IsBatch}
@@ -18,11 +18,11 @@ use Rattle.batch_history.specs.Lawful.{HasRows, KeepsOrder, HasCalls, KeepsTicks
 use Rattle.batch_history.specs.declared.batch.Entry.{Entry}
 use Rattle.batch_history.specs.declared.report.Report.{Report}
 use Rattle.batch_history.specs.declared.row.Row.{Row}
-use Rattle.batch_history.proofs.BookLemmas.EntryLists.{each_at, distinct_front, distinct_back}
 use Rattle.report_walks.specs.Code.Neighbours.{ComesBeforeFirst, AreNeighbours, AreInOrder}
 use Rattle.report_walks.proofs.CallWalk.{call_within, each_of_mapped}
 use Rattle.report_walks.proofs.RowWalk.{rows_long}
 use Rattle.report_walks.proofs.Walks.{no_row}
+use Rattle.batch_history.proofs.BookLemmas.Books.{each_in_batch}
 
 -- a list of one entry at most is in order
 short : (entries : List Entry) → length entries ≤ 1 → AreNeighbours entries
@@ -70,12 +70,6 @@ batch_distinct (batch ∷ book) zero d low distinct = distinct_front (map (λ (e
 batch_distinct (batch ∷ book) (suc k) d low distinct =
     batch_distinct book k d (omega (arith, low)) (distinct_back (map (λ (e : Entry). e.leaf) batch) (map (λ (e : Entry). e.leaf) (flat book)) (rw map-append at distinct))
 
--- an entry of a batch is one of the book
-in_flat : (P : Entry → Type 0) (book : List (List Entry)) (k : ℕ) (d : List Entry) → k < length book → AllByRecursion P (flat book) → AllByRecursion P (get_or book k d)
-in_flat P [] k d low all = absurd (omega (arith, low))
-in_flat P (batch ∷ book) zero d low all = (each_front P batch (flat book) all).0
-in_flat P (batch ∷ book) (suc k) d low all = in_flat P book k d (omega (arith, low)) (each_front P batch (flat book) all).1
-
 module _ (job : JobValue) (report : Report) (is_job : IsJob job) (rows : HasRows job report.workers report) (order : KeepsOrder job report) (calls : HasCalls job report) (ticks : KeepsTicks report) where
   long : length report.rows ≡ length job.acts
   long = rows_long job report.workers report rows ∙ is_job.leaves
@@ -90,11 +84,11 @@ module _ (job : JobValue) (report : Report) (is_job : IsJob job) (rows : HasRows
 
     within : (entry : Entry) → Contains batch entry → entry.leaf < length report.rows
     within entry has =
-        let calling : IsCallLeaf job.acts entry.leaf = each_at (λ (e : Entry). IsCallLeaf job.acts e.leaf) batch entry (in_flat (λ (e : Entry). IsCallLeaf job.acts e.leaf) report.history number d low (each_of_mapped (IsCallLeaf job.acts) (flat report.history) calls.leaves.only)) has in
+        let calling : IsCallLeaf job.acts entry.leaf = each_at (λ (e : Entry). IsCallLeaf job.acts e.leaf) batch entry (each_in_batch (λ (e : Entry). IsCallLeaf job.acts e.leaf) report.history number d low (each_of_mapped (IsCallLeaf job.acts) (flat report.history) calls.leaves.only)) has in
         omega (arith, long, call_within job.acts entry.leaf calling)
 
     worker_of : (entry : Entry) (row : Row) → Contains batch entry → slice_get report.rows entry.leaf ≡ Some row → row.worker ≡ entry.worker
-    worker_of entry row has is = each_at (λ (e : Entry). ForSome (slice_get report.rows e.leaf) (λ row. row.worker ≡ e.worker)) batch entry (in_flat (λ (e : Entry). ForSome (slice_get report.rows e.leaf) (λ row. row.worker ≡ e.worker)) report.history number d low calls.workers) has row is
+    worker_of entry row has is = each_at (λ (e : Entry). ForSome (slice_get report.rows e.leaf) (λ row. row.worker ≡ e.worker)) batch entry (each_in_batch (λ (e : Entry). ForSome (slice_get report.rows e.leaf) (λ row. row.worker ≡ e.worker)) report.history number d low calls.workers) has row is
 
     -- two calls of one worker in one batch have one leaf
     apart : (a b : Entry) → Contains batch a → Contains batch b → a.leaf ≢ b.leaf → a.worker ≢ b.worker

@@ -11,7 +11,7 @@ use Rattle.seq_objects.specs.Pairs.{AreDistinct, IsEnumerationOf}
 use Rattle.seq_objects.specs.declared.act.Act.{Act}
 use Rattle.seq_objects.specs.declared.act.Act.TheVariants.{Work, Call}
 use Rattle.seq_objects.specs.declared.op.Op.{Op}
-use Rattle.seq_objects.proofs.Elements.{each_so}
+use Rattle.seq_objects.proofs.Elements.{each_so, each_both}
 use Rattle.sp_order.specs.Jobs.{JobValue}
 use Rattle.sp_order.specs.Sources.{IsCallLeaf, with_value}
 use Rattle.batch_history.specs.Book.{flat}
@@ -21,7 +21,6 @@ use Rattle.batch_history.specs.Places.{place_in, or_else, place_from, place_of}
 use Rattle.batch_history.specs.declared.batch.Entry.{Entry}
 use Rattle.batch_history.specs.declared.place.Place.{Place}
 use Rattle.batch_history.specs.declared.row.Row.{Row}
-use Rattle.batch_history.proofs.BookLemmas.EntryLists.{each_both}
 use Rattle.report_walks.specs.Parts.{of_calls}
 use Rattle.report_walks.specs.Code.Calls.{noted, all_noted, CanNoteAll, value_in, HaveValues, op_valued, op_by, IsServed, AreValuesOf}
 

@@ -5,15 +5,15 @@ use Rattle.std.specs.List.{AllByRecursion, range_with_len}
 use Rattle.std.proofs.lemmas.Bool.{cases_eq}
 use Rattle.std.proofs.lemmas.List.{get_or-set_other, get_or-set_same, length-set, length-map, get_or-replicate, length-replicate}
 use Rattle.seq_objects.specs.Pairs.{AreDistinct}
-use Rattle.seq_objects.proofs.Elements.{each_so}
+use Rattle.seq_objects.proofs.Elements.{each_so, each_both}
 use Rattle.sp_order.specs.Precedence.{leaf_count}
 use Rattle.sp_order.specs.Jobs.{JobValue}
 use Rattle.batch_history.specs.Lawful.{ticks_of, HasRows}
 use Rattle.batch_history.specs.declared.row.Row.{Row}
 use Rattle.batch_history.specs.declared.report.Report.{Report}
-use Rattle.batch_history.proofs.BookLemmas.EntryLists.{each_both}
 use Rattle.report_walks.specs.Parts.{report_of}
 use Rattle.report_walks.specs.Code.Rows.{IsFree, with_taken, RowsFrom}
+use Rattle.std.proofs.lemmas.List.FromFn.{length-range_with_len}
 
 -- a tick that is free after another was taken was free before, and is not that one
 free_before : (taken : List Bool) (t u : ℕ) → IsFree taken t → IsFree (set taken t true) u → IsFree taken u × (t ≢ u)
@@ -146,13 +146,9 @@ rows_from workers leaf taken (row ∷ rows) are =
       }),
     )
 
-length_range : (first n : ℕ) → length (range_with_len first n) ≡ n
-length_range first zero = refl
-length_range first (suc n) = omega (arith, length_range (first + 1) n)
-
 -- there are as many rows as leaves
 pub rows_long : (job : JobValue) (workers : ℕ) (report : Report) → HasRows job workers report → length report.rows ≡ leaf_count job.shape
-rows_long job workers report has = sym (length-map report.rows (λ (r : Row). r.leaf)) ∙ ap length has.leaves ∙ length_range 0 (leaf_count job.shape)
+rows_long job workers report has = sym (length-map report.rows (λ (r : Row). r.leaf)) ∙ ap length has.leaves ∙ length-range_with_len 0 (leaf_count job.shape)
 
 module _ (job : JobValue) (workers : ℕ) (rows : List Row) (long : length rows ≡ leaf_count job.shape) where
   abbrev none_taken : List Bool

@@ -1,5 +1,5 @@
 -- Walks over a list that stop at the first element that fails: what is left has a fact exactly where the list has it.
-use Rattle.std.proofs.Common.{◌≡◌, ℕ, zero, suc, ◌+◌, ◌<◌, ◌≤◌, true, false, IsTrue, List, [], ◌∷◌, ◌++◌, length, get_or, drop, refl, sym, subst, ◌∙◌, arith}
+use Rattle.std.proofs.Common.{◌≡◌, ℕ, ◌+◌, ◌<◌, ◌≤◌, true, false, IsTrue, List, [], ◌∷◌, ◌++◌, length, get_or, drop, refl, sym, subst, ◌∙◌}
 use Rattle.std.specs.Prelude.{◌↔◌}
 use Rattle.std.specs.List.{AllByRecursion}
 use Rattle.std.proofs.lemmas.List.{drop_more, drop_all}
@@ -9,6 +9,7 @@ use Rattle.batch_history.specs.declared.batch.Entry.{Entry}
 use Rattle.batch_history.specs.declared.row.Row.{Row}
 use Rattle.seq_objects.specs.declared.op.Op.TheVariants.{CounterAdd}
 use Rattle.seq_objects.specs.declared.reply.Reply.TheVariants as reply
+use Rattle.batch_history.proofs.BookLemmas.Books.{each_in_batch}
 
 -- the answer true for what holds, and false for what does not
 pub holds : (P : Type 0) → P → (IsTrue true ↔ P)
@@ -47,12 +48,6 @@ module _ {X : Type 0} (P : X → Type 0) (xs : List X) (i : ℕ) (d : X) (left :
   pub each_done : length xs ≤ i → AllByRecursion P xs
   each_done far = left.0 (begun (AllByRecursion P) xs i far tt)
 
--- what holds of each entry of a book holds of those of each batch
-each_of_batch : (P : Entry → Type 0) (book : List (List Entry)) (i : ℕ) (d : List Entry) → i < length book → AllByRecursion P (flat book) → AllByRecursion P (get_or book i d)
-each_of_batch P [] i d low all = absurd (omega (arith, low))
-each_of_batch P (batch ∷ book) zero d low all = (each_front P batch (flat book) all).0
-each_of_batch P (batch ∷ book) (suc i) d low all = each_of_batch P book i d (omega (arith, low)) (each_front P batch (flat book) all).1
-
 -- a walk that looks at each batch, where `entries` are those of the batch at hand
 module _ (book : List (List Entry)) (i : ℕ) (item entries : List Entry) (low : i < length book) (is : item ≡ get_or book i item) (same : entries ≡ item) where
   -- the entries that are left, with those of the batch at hand, and back
@@ -63,7 +58,7 @@ module _ (book : List (List Entry)) (i : ℕ) (item entries : List Entry) (low :
   flat_closed F f = closed (λ b. F (flat b)) book i item low (subst (λ (es : List Entry). F (es ++ flat (drop (i + 1) book))) (same ∙ is) f)
 
   pub batch_each : (P : Entry → Type 0) → AllByRecursion P (flat book) → AllByRecursion P entries
-  batch_each P all = subst (AllByRecursion P) (sym (same ∙ is)) (each_of_batch P book i item low all)
+  batch_each P all = subst (AllByRecursion P) (sym (same ∙ is)) (each_in_batch P book i item low all)
 
   module _ (P : Entry → Type 0) (left : AllByRecursion P (flat (drop i book)) ↔ AllByRecursion P (flat book)) where
     pub batch_more : AllByRecursion P entries → (AllByRecursion P (flat (drop (i + 1) book)) ↔ AllByRecursion P (flat book))

@@ -93,7 +93,7 @@ other_kept Queue Stack objects others differ = refl
 other_kept Queue Tree objects others differ = refl
 other_kept Queue Queue objects others differ = absurd cc
 
-same_self : (kind : ObjectKind) → same_kind kind kind ≡ true
+pub same_self : (kind : ObjectKind) → same_kind kind kind ≡ true
 same_self Counter = refl
 same_self Stack = refl
 same_self Tree = refl

@@ -5,20 +5,13 @@ use Rattle.seq_objects.specs.declared.call.Call.{Call}
 use Rattle.seq_objects.specs.BatchOrder.{ComesFirst}
 use Rattle.seq_objects.specs.Batches.{ObjectKind, Counter, Stack, Tree, Queue, AreOneBatch, AreOf, kind_of, same_kind, calls_of}
 use Rattle.seq_objects.specs.Pairs.{AllPairsByRecursion}
-
--- what holds of all elements holds of all that pass
-pub each_filter : {A : Type 0} (P : A → Type 0) (passes : A → Bool) (xs : List A) → AllByRecursion P xs → AllByRecursion P (filter passes xs)
-each_filter P passes [] each = tt
-each_filter P passes (x ∷ xs) each = step (passes x) (each_filter P passes xs each.1) where
-  step : (b : Bool) → AllByRecursion P (filter passes xs) → AllByRecursion P (cond b (x ∷ filter passes xs) (filter passes xs))
-  step true rest = (each.0, rest)
-  step false rest = rest
+use Rattle.key_sets.proofs.Filters.{all_filter}
 
 pairs_filter : {A : Type 0} (R : A → A → Type 0) (passes : A → Bool) (xs : List A) → AllPairsByRecursion R xs → AllPairsByRecursion R (filter passes xs)
 pairs_filter R passes [] pairs = tt
 pairs_filter R passes (x ∷ xs) pairs = step (passes x) (pairs_filter R passes xs pairs.1) where
   step : (b : Bool) → AllPairsByRecursion R (filter passes xs) → AllPairsByRecursion R (cond b (x ∷ filter passes xs) (filter passes xs))
-  step true rest = (each_filter (R x) passes xs pairs.0, rest)
+  step true rest = (all_filter (R x) passes xs pairs.0, rest)
   step false rest = rest
 
 -- the same for the images of the elements under a function
@@ -41,7 +34,7 @@ some_are_a_batch passes calls batch some = record {
   some = some;
   order = pairs_filter (λ (first : Call) (second : Call). ComesFirst first.op first.worker second.op second.worker) passes calls batch.order;
   workers = pairs_map_filter (λ (call : Call). call.worker) (λ (m n : ℕ). m ≢ n) passes calls batch.workers;
-  below = each_filter (λ (call : Call). call.worker < 32) passes calls batch.below;
+  below = all_filter (λ (call : Call). call.worker < 32) passes calls batch.below;
 }
 
 -- `same_kind` decides equality of objects

@@ -10,7 +10,7 @@ use Rattle.std.specs.declared.ops.Bound.TheVariants.{Excluded, Unbounded}
 use Rattle.std.proofs.lemmas.Bool.Decides.{nat_tests}
 use Rattle.seq_objects.specs.Objects.{has, with_key, without_key, least_above}
 
-same_test : (m n : ℕ) → is_eq (nat_cmp m n) ≡ (m == n)
+pub same_test : (m n : ℕ) → is_eq (nat_cmp m n) ≡ (m == n)
 same_test m n = grind (arith, nat_tests)
 
 pub same_has : (key : ℕ) (keys : List ℕ) → list_any (is_at (nat_cmp key)) keys ≡ has key keys

@@ -3,7 +3,7 @@ pub mod CallOrder
 mod Classes
 pub mod Elements
 mod Kept
-mod Keys
+pub mod Keys
 pub mod Apart
 pub mod Filters
 pub mod Meets

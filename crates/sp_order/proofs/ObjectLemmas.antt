@@ -80,7 +80,7 @@ each_used (act ∷ acts) used count number (inr h) above most =
     here_or_later act acts used number h.0 (cases_order number (used + 1)) above (λ later. each_used acts (used + 1) count number h.1 later most)
 
 -- given numbers
-number_given : (op : Op) (number : ℕ) → number_of (with_number op number) ≡ number
+pub number_given : (op : Op) (number : ℕ) → number_of (with_number op number) ≡ number
 number_given (CounterAdd _ addend) number = refl
 number_given (Push _ item) number = refl
 number_given (Pop _) number = refl

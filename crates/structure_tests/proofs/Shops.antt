@@ -5,15 +5,16 @@ use Rattle.std.proofs.lemmas.List.{length-map}
 use Rattle.std.proofs.lemmas.List.FromFn.{length-range_with_len}
 use Rattle.seq_objects.specs.declared.call.Call.{Call}
 use Rattle.seq_objects.specs.Pairs.{AreDistinct}
-use Rattle.seq_objects.proofs.Elements.{each_append, each_so}
+use Rattle.seq_objects.proofs.Elements.{each_append, each_so, each_unmapped}
 use Rattle.batch_history.specs.declared.batch.Entry.{Entry}
 use Rattle.batch_history.specs.Book.{flat}
 use Rattle.batch_history.specs.Serving.{call_in, calls_in}
 use Rattle.launch_batch.specs.Calls.{MayServe, IsServiceOf}
-use Rattle.launch_batch.proofs.ListLemmas.Elements.{each_unmapped, map_append}
+use Rattle.launch_batch.proofs.ListLemmas.Elements.{map_append}
 use Rattle.launch_batch.proofs.ListLemmas.Same.{each_same, length_same}
-use Rattle.launch_batch.proofs.BatchLemmas.Histories.{flat_append, length_book, length_calls}
+use Rattle.launch_batch.proofs.BatchLemmas.Histories.{length_book, length_calls}
 use Rattle.structure_tests.specs.Shops.{AreFrom, IsBelow}
+use Rattle.batch_history.proofs.BookLemmas.Books.{flat_append}
 
 range_more : (a n j : ℕ) → a + n ≡ j → range_with_len a (n + 1) ≡ range_with_len a n ++ j ∷ []
 range_more a zero j is = let e : a ≡ j = omega (arith, is) in ap (λ x. x ∷ []) e

@@ -7,7 +7,7 @@ use Rattle.std.proofs.lemmas.Bool.Decides.{nat_tests}
 use Rattle.seq_objects.specs.Objects.{number_of}
 use Rattle.batch_history.specs.declared.batch.Entry.{Entry}
 use Rattle.batch_history.specs.Book.{flat}
-use Rattle.batch_history.proofs.BookLemmas.EntryLists.{each_append}
+use Rattle.seq_objects.proofs.Elements.{each_append}
 
 within : (most : ℕ) (entries : List Entry) → list_all (λ (entry : Entry). nat_le (number_of entry.op) most) entries ≡ true
     → AllByRecursion (λ (entry : Entry). number_of entry.op ≤ most) entries

@@ -10,7 +10,7 @@ use Rattle.batch_history.specs.Book.{flat, IsLegalFrom}
 use Rattle.batch_history.specs.declared.place.Place.{Place}
 use Rattle.batch_history.specs.Places.{place_in, or_else, place_from, place_of}
 use Rattle.batch_history.specs.Serving.{served_book, served}
-use Rattle.batch_history.proofs.BookLemmas.EntryLists.{each_append, each_front, each_so}
+use Rattle.seq_objects.proofs.Elements.{each_append, each_front, each_so}
 
 -- the first of three places
 or_else_assoc : (a b c : Option Place) → or_else a (or_else b c) ≡ or_else (or_else a b) c

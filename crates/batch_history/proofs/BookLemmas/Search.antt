@@ -10,7 +10,7 @@ use Rattle.batch_history.specs.Book.{flat}
 use Rattle.batch_history.specs.declared.place.Place.{Place}
 use Rattle.batch_history.specs.Places.{place_in, or_else, place_of}
 use Rattle.batch_history.proofs.BookLemmas.Books.{takes, skips, or_else_none, place_append, found_entry, found_in_book, flat_append}
-use Rattle.batch_history.proofs.BookLemmas.EntryLists.{distinct_front}
+use Rattle.seq_objects.proofs.Elements.{distinct_front}
 
 module _ (k : ℕ) (entries : List Entry) (u n : ℕ) (d : Entry) (below : n < length entries) where
   abbrev place : Place

@@ -1,14 +1,14 @@
 -- In a lawful report, calls are ordered as their leaves are.
-use Rattle.std.proofs.Common.{◌≡◌, ℕ, zero, suc, ◌+◌, ◌<◌, ◌≤◌, List, [], ◌∷◌, ◌++◌, length, get_or, Some, None, inl, inr, refl, sym, ap, subst, ◌∙◌, arith}
+use Rattle.std.proofs.Common.{◌≡◌, ℕ, zero, suc, ◌+◌, ◌<◌, ◌≤◌, List, [], ◌∷◌, ◌++◌, length, get_or, Some, None, inl, inr, refl, sym, ap, ◌∙◌, arith}
 use Rattle.std.specs.Prelude.{slice_get, Contains, Option, IsSomeAnd}
-use Rattle.std.specs.List.{AllByRecursion, range_with_len}
+use Rattle.std.specs.List.{AllByRecursion}
 use Rattle.std.proofs.lemmas.List.{length-map}
-use Rattle.std.proofs.lemmas.List.Elements.{Contains-append_left, Contains-append_right, All-from_recursion}
+use Rattle.std.proofs.lemmas.List.Elements.{Contains-append_left, Contains-append_right}
 use Rattle.std.proofs.lemmas.Option.{slice_get-get_or}
 use Rattle.seq_objects.specs.declared.op.Op.{Op}
 use Rattle.seq_objects.specs.declared.act.Act.TheVariants.{Call}
 use Rattle.seq_objects.specs.Pairs.{AllPairsByRecursion}
-use Rattle.seq_objects.proofs.Elements.{each_append}
+use Rattle.seq_objects.proofs.Elements.{each_append, each_at}
 use Rattle.sp_order.specs.Precedence.{Tree, leaf, seq, par, leaves, leaf_count, IsBeforeFrom, IsBefore}
 use Rattle.sp_order.specs.Jobs.{JobValue}
 use Rattle.sp_order.specs.Phases.{ComesBefore, HasNoSources}
@@ -19,13 +19,11 @@ use Rattle.batch_history.specs.Book.{flat}
 use Rattle.batch_history.specs.Lawful.{Lawful}
 use Rattle.batch_history.specs.Filling.{StandsBefore}
 use Rattle.batch_history.proofs.ActLemmas.{acts_at}
+use Rattle.std.proofs.lemmas.List.FromFn.{length-range_with_len}
 
 each_contained : {A : Type 0} (P : A → Type 0) (xs : List A) → ((x : A) → Contains xs x → P x) → AllByRecursion P xs
 each_contained P [] h = tt
 each_contained P (x ∷ xs) h = (h x (0, omega arith, refl), each_contained P xs (λ y c. h y (Contains-append_right (x ∷ []) xs y c)))
-
-each_at : {A : Type 0} (P : A → Type 0) (xs : List A) (x : A) → AllByRecursion P xs → Contains xs x → P x
-each_at P xs x h c = subst P c.2 (All-from_recursion P xs h c.0 x c.1)
 
 pairs_append : {A : Type 0} (R : A → A → Type 0) (xs ys : List A) → AllPairsByRecursion R xs → AllPairsByRecursion R ys
     → AllByRecursion (λ x. AllByRecursion (R x) ys) xs → AllPairsByRecursion R (xs ++ ys)
@@ -73,15 +71,11 @@ before_below : (shape : Option Tree) (u v : ℕ) → IsBefore shape u v → (u <
 before_below None u v h = absurd h
 before_below (Some tree) u v h = let is = before_in 0 tree u v h in (omega (arith, is.0), omega (arith, is.1))
 
-length_range : (first n : ℕ) → length (range_with_len first n) ≡ n
-length_range first zero = refl
-length_range first (suc n) = omega (arith, length_range (first + 1) n)
-
 no_row : Row
 no_row = record { leaf = 0; worker = 0; start = 0; end = 0; value = 0 }
 
 pub rows_long : (job : JobValue) (workers : ℕ) (report : Report) → Lawful job workers report → length report.rows ≡ leaf_count job.shape
-rows_long job workers report lawful = sym (length-map report.rows (λ (r : Row). r.leaf)) ∙ ap length lawful.rows.leaves ∙ length_range 0 (leaf_count job.shape)
+rows_long job workers report lawful = sym (length-map report.rows (λ (r : Row). r.leaf)) ∙ ap length lawful.rows.leaves ∙ length-range_with_len 0 (leaf_count job.shape)
 
 module _ (job : JobValue) (workers : ℕ) (report : Report) (lawful : Lawful job workers report) (none : HasNoSources job) where
   long : length report.rows ≡ leaf_count job.shape

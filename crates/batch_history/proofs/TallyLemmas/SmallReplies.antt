@@ -121,7 +121,7 @@ pub small_replies : (entries : List Entry) → IsLegalFrom opening_store entries
 small_replies entries legal args few = all_served opening_store entries (λ number. record { counter = omega (arith, few); stack = tt; set = tt; bag = tt }) legal args
 
 -- the argument of a call is that of its act, or the low bits of a value
-given_small : (op given : Op) → argument_of given < 2 ^ 32 → IsGiven op given → argument_of op < 2 ^ 32
+pub given_small : (op given : Op) → argument_of given < 2 ^ 32 → IsGiven op given → argument_of op < 2 ^ 32
 given_small op given small (inl same) = subst (λ (o : Op). argument_of o < 2 ^ 32) (sym same) small
 given_small op given small (inr value) = subst (λ (o : Op). argument_of o < 2 ^ 32) (sym value.1) (narrow given value.0)
 

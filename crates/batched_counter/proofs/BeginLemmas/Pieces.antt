@@ -7,14 +7,12 @@ use Rattle.batched_counter.specs.declared.piece.Piece.{Piece}
 use Rattle.batched_counter.specs.Sums.{total}
 use Rattle.batched_counter.specs.Calls.{addends}
 use Rattle.batched_counter.specs.Pieces.{addends_in, IsCutInto}
+use Rattle.key_sets.proofs.GroupLemmas.Cutting.{take_drop}
 
 -- the concatenation of the lists
 abbrev pub flat : List (List ℕ) → List ℕ
 flat [] = []
 flat (xs ∷ xss) = xs ++ flat xss
-
-take_drop : (n : ℕ) (xs : List ℕ) → take n xs ++ drop n xs ≡ xs
-take_drop n xs = grind (arith, common_steps)
 
 pub flat_is : (size : ℕ) (xs : List ℕ) (pieces : List (List ℕ)) → IsCutInto size xs pieces
     → flat pieces ≡ xs

@@ -8,7 +8,8 @@ use Rattle.batched_stack.specs.declared.piece.Piece.{Piece}
 use Rattle.batched_stack.specs.Lists.{lists, rooms_in}
 use Rattle.batched_stack.specs.Pieces.{pushes_to, pops_from, is_called, numbers_in}
 use Rattle.batched_stack.specs.Code.Begin.{IsCutOf, IsTaken, IsSame}
-use Rattle.batched_stack.proofs.Basics.{true_not_false, all_more}
+use Rattle.batched_stack.proofs.Basics.{true_not_false}
+use Rattle.seq_objects.proofs.Elements.{each_push}
 
 range_last : (a n : ℕ) → range_with_len a (suc n) ≡ range_with_len a n ++ (a + n) ∷ []
 range_last a zero = let same : a ≡ a + 0 = omega arith in ap (λ k. k ∷ []) same
@@ -60,7 +61,7 @@ take_out old now new n puts takes number pieces more mine taken cut called is_mi
     } in
     record {
       numbers = ap numbers_in is_more ∙ map-append (λ (p : Piece). p.number) pieces (piece ∷ []) ∙ ap (λ k. numbers_in pieces ++ k ∷ []) has.number ∙ ap (λ ks. ks ++ number ∷ []) cut.numbers ∙ sym (called_more n puts takes number ∙ ap (λ b. filter (is_called n puts takes) (range_with_len 0 number) ++ cond b (number ∷ []) []) called);
-      each = rw is_more (all_more (IsCutOf old n puts takes) pieces piece cut.each own);
+      each = rw is_more (each_push (IsCutOf old n puts takes) pieces piece cut.each own);
       kept = λ j same.
           let before = cut.kept j (λ less. same (omega (arith, less))) in
           record {

@@ -1,7 +1,5 @@
 -- Taking the last items off, and serving the calls of one stripe.
 use Rattle.std.proofs.Common.{◌≡◌, ℕ, suc, ◌+◌, ◌-◌, ◌<◌, ◌≤◌, inl, inr, min, List, [], ◌∷◌, ◌++◌, length, take, drop, reverse, get_or, refl, sym, ap, ◌∙◌, append-nil, length-append, drop-cons, arith}
-use Rattle.std.specs.Prelude.{Some, None}
-use Rattle.std.specs.declared.option.Option.{Option}
 use Rattle.std.proofs.Math.Seq.{take-append-add, drop-append-add}
 use Rattle.std.proofs.lemmas.Bool.{cases_order}
 use Rattle.std.proofs.lemmas.List.{reverse-append, take-append-le, drop-append-le}
@@ -23,13 +21,6 @@ drop_one_more xs count less =
 pub last_taken : (xs : List ℕ) (count : ℕ) → count < length xs
     → get_or (take (length xs - count) xs) (length (take (length xs - count) xs) - 1) 0 ≡ get_or xs (length xs - (count + 1)) 0
 last_taken xs count less = grind (arith, common_steps)
-
-abbrev or_zero : Option ℕ → ℕ
-or_zero (Some x) = x
-or_zero None = 0
-
-pub same_item : (x y : ℕ) → Some x ≡ Some y → x ≡ y
-same_item x y same = ap or_zero same
 
 -- Of a list and more behind it, first the last of those behind are taken, and then the last of the list. This
 -- is as many of the list as are left to take, and of those behind.

@@ -7,7 +7,7 @@ use Rattle.std.proofs.lemmas.Bool.Decides.{nat_tests}
 use Rattle.std.proofs.lemmas.List.{get_or-map, take_more}
 use Rattle.std.proofs.lemmas.List.Elements.{filter-append}
 use Rattle.key_sets.specs.Groups.{group_of}
-use Rattle.key_sets.proofs.KeyLemmas.Sides.{less_or_not}
+use Rattle.std.proofs.lemmas.Bool.{cases_lt}
 use Rattle.key_sets.proofs.GroupLemmas.Counting.{group_within}
 use Rattle.seq_objects.specs.declared.call.Call.{Call}
 use Rattle.seq_objects.specs.Objects.{argument_of}
@@ -74,7 +74,7 @@ dealt : (starts keys : List ℕ) (calls : List Call) (call : Call) (pieces : Lis
 dealt [] keys calls call [] old new are_pieces is more = absurd are_pieces
 dealt (b ∷ starts) keys calls call [] old new are_pieces is more = absurd are_pieces
 dealt [] keys calls call (piece ∷ pieces) old new are_pieces is more = (piece_more _ _ _ call old new (rw is are_pieces.0) more, are_pieces.1)
-dealt (b ∷ starts) keys calls call (piece ∷ pieces) old new are_pieces is more = elim (less_or_not (key_of call) b) [
+dealt (b ∷ starts) keys calls call (piece ∷ pieces) old new are_pieces is more = elim (cases_lt (key_of call) b) [
   | inl less ↦
       let test : nat_lt (argument_of call.op) b ≡ true = grind (arith, nat_tests) in
       let sides = more_below b calls call test in

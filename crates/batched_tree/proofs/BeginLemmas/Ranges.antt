@@ -12,7 +12,7 @@ use Rattle.key_sets.proofs.Filters.{filter_where, each_of, filter_all, filter_bo
 use Rattle.key_sets.proofs.KeyLemmas.Ascending.{all_map}
 use Rattle.key_sets.proofs.KeyLemmas.Beside.{absent, has_low, has_high}
 use Rattle.key_sets.proofs.KeyLemmas.Members.{holds}
-use Rattle.key_sets.proofs.KeyLemmas.Sides.{less_or_not}
+use Rattle.std.proofs.lemmas.Bool.{cases_lt}
 use Rattle.key_sets.proofs.GroupLemmas.Distinct.{distinct_ascends}
 use Rattle.key_sets.proofs.GroupLemmas.Cutting.{all_get, absent_above, AreApart, apart, take_drop, all_take, get_drop, get_less, groups_by, groups_are, least_is, starts_up, next_start, starts_again, all_from_0}
 use Rattle.key_sets.proofs.GroupLemmas.Placing.{last_whole}
@@ -31,7 +31,7 @@ use Rattle.batched_tree.proofs.BeginLemmas.Asked.{AreAsked, all_asked}
 
 -- tests of a key
 not_less : (m n : ℕ) → not (nat_lt m n) ≡ nat_le n m
-not_less m n = elim (less_or_not m n) [
+not_less m n = elim (cases_lt m n) [
   | inl less ↦
       let a : nat_lt m n ≡ true = grind (arith, nat_tests) in
       let b : nat_le n m ≡ false = grind (arith, nat_tests) in
@@ -44,7 +44,7 @@ not_less m n = elim (less_or_not m n) [
 
 not_less_further : (start b k : ℕ) → start ≤ b
     → (not (nat_lt k start) && not (nat_lt k b)) ≡ not (nat_lt k b)
-not_less_further start b k le = elim (less_or_not k b) [
+not_less_further start b k le = elim (cases_lt k b) [
   | inl less ↦
       let a : nat_lt k b ≡ true = grind (arith, nat_tests) in
       rw a (false_behind (not (nat_lt k start)))
@@ -76,7 +76,7 @@ in_first start b key low high up both cut (inl less) =
 in_first start b key low high up both cut (inr there) =
     let le : start ≤ key = holds (λ k. start ≤ k) key (low ++ high) both there in
     let test : nat_lt key start ≡ false = grind (arith, nat_tests) in
-    elim (less_or_not key b) [
+    elim (cases_lt key b) [
       | inl less ↦
           let test' : nat_lt key b ≡ true = grind (arith, nat_tests) in
           let own : has key low ≡ true = sym (has_low key b low high less cut.up) ∙ there in
@@ -89,7 +89,7 @@ in_first start b key low high up both cut (inr there) =
 in_rest : (start b key : ℕ) (low high : List ℕ) → start ≤ b → AreApart b low high
     → (key < start) ⊎ (has key (low ++ high) ≡ true) → (key < b) ⊎ (has key high ≡ true)
 in_rest start b key low high le cut (inl less) = inl (omega arith)
-in_rest start b key low high le cut (inr there) = elim (less_or_not key b) [
+in_rest start b key low high le cut (inr there) = elim (cases_lt key b) [
   | inl less ↦ inl less
   | inr more ↦ inr (sym (has_high key b low high more cut.down) ∙ there)
 ]

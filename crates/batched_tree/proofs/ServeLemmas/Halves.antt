@@ -5,7 +5,7 @@ use Rattle.std.specs.List.{AllByRecursion}
 use Rattle.std.proofs.lemmas.Bool.Decides.{nat_tests}
 use Rattle.key_sets.proofs.KeyLemmas.Ascending.{all_with, all_without}
 use Rattle.key_sets.proofs.KeyLemmas.Beside.{has_low, has_high, with_low, with_high, without_low, without_high, next_high}
-use Rattle.key_sets.proofs.KeyLemmas.Sides.{less_or_not}
+use Rattle.std.proofs.lemmas.Bool.{cases_lt}
 use Rattle.seq_objects.specs.declared.op.Op.{Op}
 use Rattle.seq_objects.specs.declared.op.Op.TheVariants.{CounterAdd, Push, Pop, TreeInsert, TreeRemove, TreeFind, TreeNext, PqInsert, PqTake}
 use Rattle.seq_objects.specs.declared.call.Call.{Call}
@@ -172,7 +172,7 @@ pub halves_replies : (b : ℕ) (calls : List Call) (low high : List ℕ) (beyond
     → AllByRecursion (λ k. k < b) low → AllByRecursion (λ k. b ≤ k) high → Knows beyond high calls
     → replies_to_all (of_set (low ++ high)) calls ≡ shared b calls (replies_within beyond (of_set low) (calls_below b calls)) (replies_to_all (of_set high) (calls_from b calls))
 halves_replies b [] low high beyond tree order down up known = refl
-halves_replies b (call ∷ calls) low high beyond tree order down up known = elim (less_or_not (key_of call) b) [
+halves_replies b (call ∷ calls) low high beyond tree order down up known = elim (cases_lt (key_of call) b) [
   | inl less ↦
       let test : nat_lt (argument_of call.op) b ≡ true = grind (arith, nat_tests) in
       let is = changes call.op low tree.0 in
@@ -209,7 +209,7 @@ pub halves_after : (b : ℕ) (calls : List Call) (low high : List ℕ) → AreOf
     → AllByRecursion (λ k. k < b) low → AllByRecursion (λ k. b ≤ k) high
     → after_all (of_set (low ++ high)) calls ≡ of_set ((after_all (of_set low) (calls_below b calls)).set ++ (after_all (of_set high) (calls_from b calls)).set)
 halves_after b [] low high tree down up = refl
-halves_after b (call ∷ calls) low high tree down up = elim (less_or_not (key_of call) b) [
+halves_after b (call ∷ calls) low high tree down up = elim (cases_lt (key_of call) b) [
   | inl less ↦
       let test : nat_lt (argument_of call.op) b ≡ true = grind (arith, nat_tests) in
       let is = changes call.op low tree.0 in

@@ -15,13 +15,13 @@ use Rattle.core_model.specs.Invariant.Statuses.{IsAtCall}
 use Rattle.core_model.specs.Invariant.Tasks.{TaskFits}
 use Rattle.core_model.specs.Batches.{IsCallOf, AreTakenCalls}
 use Rattle.core_model.proofs.Inductive.Parts.{InductiveParts}
-use Rattle.batch_history.proofs.BookLemmas.EntryLists.{each_append, each_front, each_so}
 use Rattle.seq_objects.specs.BatchOrder.{ComesFirst, RanksLower, class_of, key_of}
 use Rattle.seq_objects.specs.Objects.{number_of}
 use Rattle.seq_objects.proofs.CallOrder.{IsFirst, first_through, first_or_second}
 use Rattle.core_model.proofs.BatchLemmas.TakenCalls.{at_call_started, TakenOf, one_among}
 use Rattle.core_model.proofs.BatchLemmas.Replied.{replied, replied_are, replied_legal}
 use Rattle.core_model.proofs.BatchLemmas.Made.{taken_at_call, batch_made}
+use Rattle.seq_objects.proofs.Elements.{each_append, each_front, each_so}
 
 -- the lower of two numbers comes before the other, and of two equal numbers what comes before by the rest
 abbrev Lower : (m n : ℕ) → Type 0 → Type 0

@@ -7,7 +7,6 @@ use Rattle.seq_objects.specs.BatchOrder.{ComesFirst}
 use Rattle.seq_objects.specs.Batches.{AreInBatchOrder}
 use Rattle.seq_objects.specs.declared.call.Call.{Call}
 use Rattle.core_model.proofs.Words.{Entry, Task, Status, Executing, CallState, CoreJob, Hold, State}
-use Rattle.seq_objects.specs.Pairs.{AllPairsByRecursion}
 use Rattle.batch_history.specs.Book.{IsLegalFrom}
 use Rattle.core_model.specs.Events.{has_taken, IsTakenCall, IsBatchOf}
 use Rattle.core_model.specs.Invariant.Statuses.{IsAtCall, is_taken_by}
@@ -16,18 +15,8 @@ use Rattle.core_model.proofs.Inductive.Book.{StatusFits}
 use Rattle.core_model.proofs.Inductive.Parts.{InductiveParts}
 use Rattle.batch_history.specs.Serving.{call_in, calls_in}
 use Rattle.core_model.specs.Batches.{IsCallOf, AreTakenCalls}
-use Rattle.batch_history.proofs.BookLemmas.EntryLists.{each_so}
+use Rattle.seq_objects.proofs.Elements.{each_so, each_unmapped, pairs_unmapped}
 use Rattle.core_model.proofs.InvariantLemmas.BatchFacts.{executing}
-
--- what holds of what each element is mapped to
-unmapped : {A B : Type 0} (f : A → B) (P : B → Type 0) (xs : List A) → AllByRecursion P (map f xs) → AllByRecursion (λ a. P (f a)) xs
-unmapped f P [] h = tt
-unmapped f P (x ∷ xs) h = (h.0, unmapped f P xs h.1)
-
--- what holds of each two of the calls of entries
-pairs_unmapped : {A B : Type 0} (f : A → B) (R : B → B → Type 0) (xs : List A) → AllPairsByRecursion R (map f xs) → AllPairsByRecursion (λ a b. R (f a) (f b)) xs
-pairs_unmapped f R [] h = tt
-pairs_unmapped f R (x ∷ xs) h = (unmapped f (R (f x)) xs h.0, pairs_unmapped f R xs h.1)
 
 -- a list that contains something is not empty
 some_in : {A B : Type 0} (f : A → B) (xs : List A) (b : B) → Contains (map f xs) b → xs ≢ []
@@ -76,7 +65,7 @@ module _ (job : CoreJob) (s : State) (hd : Hold) (h : InductiveParts job s) (the
 
     pub only_taken : AllByRecursion (IsTakenCall job s) entries
     only_taken = each_so (λ (e : Entry). (hd.taken e.worker ≡ true) × IsCallOf job s.book (s.task e.worker) (call_in e)) (IsTakenCall job s) taken_call entries
-        (unmapped call_in (λ (call : Call). (hd.taken call.worker ≡ true) × IsCallOf job s.book (s.task call.worker) call) entries taken.only)
+        (each_unmapped call_in (λ (call : Call). (hd.taken call.worker ≡ true) × IsCallOf job s.book (s.task call.worker) call) entries taken.only)
 
     made : (u : ℕ) × (hd.taken u ≡ true) → AreInBatchOrder (calls_in entries) → IsLegalFrom s.objects entries → IsBatchOf job s entries
     made some order legal = record {

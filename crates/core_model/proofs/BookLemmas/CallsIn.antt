@@ -1,21 +1,16 @@
 -- The leaves of a job that call have numbers below that of its nodes.
-use Rattle.std.proofs.Common.{ℕ, zero, suc, ◌≡◌, ◌≢◌, ◌<◌, ◌≤◌, None, List, [], ◌∷◌, length, get_or, arith, refl}
-use Rattle.core_model.proofs.Words.{Act, Work, Tree, leaf, seq, par, leaves, node_count, IsPlanOf, core_job}
+use Rattle.std.proofs.Common.{ℕ, zero, suc, ◌≡◌, ◌≢◌, ◌<◌, None, List, [], ◌∷◌, length, get_or, arith, refl}
+use Rattle.core_model.proofs.Words.{Act, Work, leaves, IsPlanOf, core_job}
 use Rattle.sp_order.specs.Jobs.{JobValue, job_tree}
 use Rattle.sp_order.specs.Preorder.{nodes_of}
 use Rattle.core_model.specs.Operations.{op_in, IsCall}
+use Rattle.core_model.proofs.BookLemmas.LeavesIn.{leaves_few}
 
 -- what is past the acts does not call
 pub call_within : (acts : List Act) (u : ℕ) → op_in (get_or acts u (Work 0)) ≢ None → u < length acts
 call_within [] u call = absurd (call refl)
 call_within (act ∷ acts) zero call = omega arith
 call_within (act ∷ acts) (suc u) call = let h = call_within acts u call in omega (arith, h)
-
--- a tree has no more leaves than nodes
-leaves_few : (tree : Tree) → leaves tree ≤ node_count tree
-leaves_few leaf = omega arith
-leaves_few (seq left right) = let l = leaves_few left in let r = leaves_few right in omega (arith, l, r)
-leaves_few (par left right) = let l = leaves_few left in let r = leaves_few right in omega (arith, l, r)
 
 pub calls_in : (job : JobValue) (workers : ℕ) → IsPlanOf (nodes_of (job_tree job)) (job_tree job) → length job.acts ≡ leaves (job_tree job)
     → (u : ℕ) → IsCall (core_job job workers) u → u < (nodes_of (job_tree job)).count

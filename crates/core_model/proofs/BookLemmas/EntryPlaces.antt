@@ -8,8 +8,8 @@ use Rattle.batch_history.specs.declared.batch.Entry.{Entry}
 use Rattle.seq_objects.specs.Pairs.{AreDistinct}
 use Rattle.batch_history.specs.Book.{flat}
 use Rattle.core_model.specs.Operations.{Place, place_in, or_else, place_from, place_of}
-use Rattle.batch_history.proofs.BookLemmas.EntryLists.{each_front, each_at, distinct_front, distinct_back}
 use Rattle.batch_history.proofs.BookLemmas.Books.{takes, skips}
+use Rattle.seq_objects.proofs.Elements.{each_front, each_at, distinct_front, distinct_back}
 
 -- the leaves of entries
 abbrev pub leaves_of : List Entry → List ℕ

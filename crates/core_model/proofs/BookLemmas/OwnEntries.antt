@@ -14,14 +14,15 @@ use Rattle.core_model.specs.Operations.{leaf_of, Place, or_else, place_in, place
 use Rattle.core_model.specs.Waits.{task_place}
 use Rattle.core_model.proofs.Inductive.Parts.{InductiveParts}
 use Rattle.batch_history.proofs.BookLemmas.Books.{or_else_none, place_append, flat_append}
-use Rattle.batch_history.proofs.BookLemmas.EntryLists.{each_so, each_mapped, each_at, distinct_leaves}
+use Rattle.batch_history.proofs.BookLemmas.EntryLists.{distinct_leaves}
 use Rattle.core_model.proofs.BookLemmas.EntryPlaces.{none_in, placed_in}
 use Rattle.core_model.proofs.InvariantLemmas.Publish.{one_worker, not_in_book}
+use Rattle.seq_objects.proofs.Elements.{each_so, each_mapped, each_at}
 
-if_same : {A : Type 0} (a b : ℕ) (p q : A) → a ≡ b → (if a == b then p else q) ≡ p
+pub if_same : {A : Type 0} (a b : ℕ) (p q : A) → a ≡ b → (if a == b then p else q) ≡ p
 if_same a b p q e = grind (arith, nat_tests)
 
-if_other : {A : Type 0} (a b : ℕ) (p q : A) → a ≢ b → (if a == b then p else q) ≡ q
+pub if_other : {A : Type 0} (a b : ℕ) (p q : A) → a ≢ b → (if a == b then p else q) ≡ q
 if_other a b p q e = grind (arith, nat_tests)
 
 -- the entries of a worker in two lists

@@ -10,7 +10,8 @@ use Rattle.batch_history.specs.Book.{flat, IsBatch}
 use Rattle.core_model.specs.Operations.{op_of, IsCall}
 use Rattle.core_model.proofs.BookLemmas.Operations.{is_call}
 use Rattle.core_model.proofs.Inductive.Parts.{InductiveParts}
-use Rattle.batch_history.proofs.BookLemmas.EntryLists.{each_so, each_mapped, each_at, distinct_tests}
+use Rattle.batch_history.proofs.BookLemmas.EntryLists.{distinct_tests}
+use Rattle.seq_objects.proofs.Elements.{each_so, each_mapped, each_at}
 
 -- there are no more distinct numbers than numbers below their bound
 pub distinct_few : (xs : List ℕ) (most : ℕ) → AreDistinct xs → AllByRecursion (λ x. x < most) xs → length xs ≤ most

@@ -1,8 +1,8 @@
 -- The entries of the book, and the calls that no batch has yet, are calls of distinct leaves, so there is room for all.
-use Rattle.std.proofs.Common.{ℕ, ◌≡◌, ◌≢◌, ◌<◌, ◌≤◌, ◌+◌, Bool, Option, Some, None, List, [], ◌∷◌, ◌++◌, length, map, arith, refl, sym, ap, ◌∙◌, subst, inl, inr, length-append}
+use Rattle.std.proofs.Common.{ℕ, ◌≡◌, ◌≢◌, ◌<◌, ◌≤◌, ◌+◌, Some, None, List, [], ◌∷◌, ◌++◌, length, map, arith, refl, sym, ap, ◌∙◌, subst, inl, inr, length-append}
 use Rattle.std.proofs.lemmas.List.{length-map}
 use Rattle.std.specs.List.{AllByRecursion}
-use Rattle.core_model.proofs.Words.{LeafNode, IsPlan, Entry, Progress, Taken, Task, Idle, Run, Half, Started, Kept, Ended, Whole, Handed, Status, Pending, CallState, Out, CoreJob, State, names}
+use Rattle.core_model.proofs.Words.{LeafNode, IsPlan, Entry, Taken, Task, Idle, Run, Half, Started, Kept, Ended, Whole, Handed, Out, CoreJob, State, names}
 use Rattle.seq_objects.specs.Pairs.{AreDistinct}
 use Rattle.batch_history.specs.Book.{flat}
 use Rattle.core_model.specs.Choice.{leaf_named}
@@ -12,13 +12,14 @@ use Rattle.core_model.specs.Invariant.Hold.{is_published}
 use Rattle.core_model.specs.Invariant.Statuses.{IsAtCall}
 use Rattle.core_model.specs.Measure.{call_count}
 use Rattle.core_model.specs.Operations.{leaf_of, IsCall, place_of}
-use Rattle.core_model.proofs.Inductive.Book.{booked_by}
 use Rattle.core_model.proofs.Inductive.Parts.{InductiveParts}
 use Rattle.batch_history.proofs.BookLemmas.Books.{each_in_book}
 use Rattle.core_model.proofs.BookLemmas.EntryCount.{each_calls, few_leaves}
-use Rattle.batch_history.proofs.BookLemmas.EntryLists.{each_append, each_mapped, distinct_append, apart_by}
+use Rattle.batch_history.proofs.BookLemmas.EntryLists.{apart_by}
 use Rattle.core_model.proofs.BookLemmas.Room.{distinct_few}
 use Rattle.core_model.proofs.InvariantLemmas.Publish.{no_entry, not_booked}
+use Rattle.seq_objects.proofs.Elements.{each_append, each_mapped, distinct_append}
+use Rattle.core_model.proofs.WaitLemmas.From.{pending_booked}
 
 -- a function that is injective on `P` maps distinct elements to distinct values
 apart_mapped : (f : ℕ → ℕ) (P : ℕ → Type 0) → ((a b : ℕ) → P a → P b → f a ≡ f b → a ≡ b) → (x : ℕ) → P x → (ys : List ℕ) → AllByRecursion P ys
@@ -41,11 +42,6 @@ at_started job (Ended n start end) h = absurd h
 at_started job (Whole n) h = absurd h
 at_started job (Handed n) h = absurd h
 
--- a pending call is not booked
-pending_not_booked : (x : Progress) (o : Option ℕ) (task : ℕ → Task) (status : ℕ → Status) (call : ℕ → CallState) (b : Bool) (w n t : ℕ)
-    → x ≡ Taken → o ≡ Some w → task w ≡ Started n t → status w ≡ Pending → call w ≡ Out → booked_by x o task status call b ≡ None
-pending_not_booked x o task status call b w n t taken held started pending out = grind arith
-
 -- the call of worker w, whose leaf the book does not have
 record WaitingCall (job : CoreJob) (s : State) (w : ℕ) : Type 0 where
   node : ℕ
@@ -65,7 +61,7 @@ module _ (job : CoreJob) (s : State) (laws : IsPlan job.plan) (parts : Parts job
       → place_of s.book leaf ≡ None
   not_yet w n start leaf started kind calls taken (inl pending) =
       no_entry (place_of s.book leaf) (h.booked n leaf kind calls
-      ∙ pending_not_booked (s.node n) (h.holder n) s.task s.status s.call (is_published s.hold) w n start taken (h.tasks.holders.named w n (ap names started)) started pending
+      ∙ pending_booked (s.node n) (h.holder n) s.task s.status s.call (is_published s.hold) w n start taken (h.tasks.holders.named w n (ap names started)) started pending
       (call_is_out w (inl pending)))
   not_yet w n start leaf started kind calls taken (inr executing) =
       no_entry (place_of s.book leaf) (rw executing.1 at (h.booked n leaf kind calls)

@@ -1,7 +1,7 @@
 -- The parts of the invariant imply the inductive invariant. The holder of a node is the worker found to name it, and
 -- the draw of a tick is the one that the parts give.
 use Rattle.std.proofs.Common.{ℕ, ◌≡◌, ◌≢◌, ◌<◌, ◌≤◌, ◌⊎◌, ◌==◌, Bool, true, false, Option, Some, None, List, arith, refl, inl, inr, subst, sym, ◌∙◌, ap}
-use Rattle.std.proofs.lemmas.Bool.{cases_eq, cases_lt}
+use Rattle.std.proofs.lemmas.Bool.{cases_eq, cases_lt, false_from_ne_true}
 use Rattle.std.proofs.lemmas.Bool.Decides.{nat_tests}
 use Rattle.seq_objects.specs.Objects.{value_of}
 use Rattle.core_model.proofs.Words.{Act, Work, Call, Kind, LeafNode, SeqNode, ParNode, Nodes, IsPlan, Entry, Progress, Waiting, Ready, Taken, Done, Ran, Task, Idle, Run, Half, Started, Kept, Ended, Whole, Handed, Status, Free, Pending, Executing, Served, CallState, NotCalled, Out, Got, Receipt, CoreJob, State, CoreState, is_done, names, Event}
@@ -92,10 +92,6 @@ tells_start (Ended m a b) v w n s e name is =
     (p.0, (m_is, p.1), λ d f. let g = p.2 ∙ f in let b_is : b ≡ d = cc in let a_is : a ≡ s = p.1 in rw (m_is, a_is, b_is) refl)
 tells_start (Whole m) v w n s e name is = cc
 tells_start (Handed m) v w n s e name is = cc
-
-not_true : (b : Bool) → (b ≡ true → ⊥) → b ≡ false
-not_true true h = absurd (h refl)
-not_true false h = refl
 
 module _ (plan : Nodes) (workers : ℕ) (node : ℕ → Progress) (mark : ℕ → ℕ) (tick : ℕ) (task : ℕ → Task)
     (nodes : NodesInvariant plan node) (tasks : TasksInvariant plan node mark task) (ticks : TicksInvariant plan workers node tick task)
@@ -272,17 +268,17 @@ module _ (plan : Nodes) (workers : ℕ) (node : ℕ → Progress) (mark : ℕ �
 row_carried : (job : CoreJob) (book : List (List Entry)) (t : Task) (st : Status) (c : CallState) (b : Bool)
     → (c ≡ Out → st ≢ Free) → (st ≢ Free → c ≡ Out) → (c ≢ NotCalled → IsAtCall job t) → (st ≡ Executing → b ≡ true) → (b ≡ true → st ≡ Executing)
     → ((r : Receipt) → st ≡ Served r → HasReceipt job book t r) → ((r : Receipt) → c ≡ Got r → HasReceipt job book t r) → StatusFits job book t st c b
-row_carried job book t Free NotCalled b out busy at taken executes served got = not_true b (λ e. let f = executes e in cc)
+row_carried job book t Free NotCalled b out busy at taken executes served got = false_from_ne_true b (λ e. let f = executes e in cc)
 row_carried job book t Free Out b out busy at taken executes served got = out refl refl
-row_carried job book t Free (Got r) b out busy at taken executes served got = (not_true b (λ e. let f = executes e in cc), at (λ e. cc), got r refl)
+row_carried job book t Free (Got r) b out busy at taken executes served got = (false_from_ne_true b (λ e. let f = executes e in cc), at (λ e. cc), got r refl)
 row_carried job book t Pending NotCalled b out busy at taken executes served got = let f = busy (λ e. cc) in absurd cc
-row_carried job book t Pending Out b out busy at taken executes served got = (not_true b (λ e. let f = executes e in cc), at (λ e. cc))
+row_carried job book t Pending Out b out busy at taken executes served got = (false_from_ne_true b (λ e. let f = executes e in cc), at (λ e. cc))
 row_carried job book t Pending (Got r) b out busy at taken executes served got = let f = busy (λ e. cc) in absurd cc
 row_carried job book t Executing NotCalled b out busy at taken executes served got = let f = busy (λ e. cc) in absurd cc
 row_carried job book t Executing Out b out busy at taken executes served got = (taken refl, at (λ e. cc))
 row_carried job book t Executing (Got r) b out busy at taken executes served got = let f = busy (λ e. cc) in absurd cc
 row_carried job book t (Served q) NotCalled b out busy at taken executes served got = let f = busy (λ e. cc) in absurd cc
-row_carried job book t (Served q) Out b out busy at taken executes served got = (not_true b (λ e. let f = executes e in cc), at (λ e. cc), served q refl)
+row_carried job book t (Served q) Out b out busy at taken executes served got = (false_from_ne_true b (λ e. let f = executes e in cc), at (λ e. cc), served q refl)
 row_carried job book t (Served q) (Got r) b out busy at taken executes served got = let f = busy (λ e. cc) in absurd cc
 
 earlier_if : (p q : Option Place) → ((later : Place) → q ≡ Some later → (earlier : Place) × (p ≡ Some earlier) × (earlier.batch < later.batch)) → IsEarlier p q

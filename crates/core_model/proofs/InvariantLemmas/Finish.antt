@@ -57,11 +57,11 @@ root_same : (node : ℕ → Progress) (task : ℕ → Task) (status : ℕ → St
 root_same node task status call b holder w n k m x h taken how = grind (arith, nat_tests, h.holds w m, h.named w k)
 
 -- after the root its worker is idle
-idle_after : (n : ℕ) → n ≡ 0 → task_after n ≡ Idle
+pub idle_after : (n : ℕ) → n ≡ 0 → task_after n ≡ Idle
 idle_after n e = grind (arith, nat_tests)
 
 -- after another node it has the whole node
-whole_after : (n : ℕ) → n ≢ 0 → task_after n ≡ Whole n
+pub whole_after : (n : ℕ) → n ≢ 0 → task_after n ≡ Whole n
 whole_after n e = grind (arith, nat_tests)
 
 -- a side of a parallel block is not the right side of a series

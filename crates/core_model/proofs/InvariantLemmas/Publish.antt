@@ -15,10 +15,11 @@ use Rattle.core_model.specs.Invariant.Hold.{is_published, HoldInvariant}
 use Rattle.core_model.proofs.Inductive.Nodes.{HoldersFit}
 use Rattle.core_model.proofs.Inductive.Book.{StatusFits, booked_by, worker_at, valued_by, value_due}
 use Rattle.core_model.proofs.Inductive.Parts.{InductiveParts}
-use Rattle.batch_history.proofs.BookLemmas.EntryLists.{each_append, each_so, each_both, each_mapped, each_at, distinct_append, apart_by, distinct_leaves}
+use Rattle.batch_history.proofs.BookLemmas.EntryLists.{apart_by, distinct_leaves}
 use Rattle.batch_history.proofs.BookLemmas.Books.{which_place, place_append, place_in_batch, found_entry, each_found, each_in_book, flat_append, served_append, legal_append}
 use Rattle.core_model.proofs.BookLemmas.Operations.{op_kept, is_call}
 use Rattle.core_model.proofs.InvariantLemmas.BatchFacts.{started_at, BatchFits, status_kept, taken_same, hold_kept, earlier_append, booked_published, entry_kept, executing, took_it, new_entry, source_kept, has_place, ended_booked, batch_node, batch_each}
+use Rattle.seq_objects.proofs.Elements.{each_append, each_so, each_both, each_mapped, each_at, distinct_append}
 
 -- two taken calls of one leaf have one worker
 pub one_worker : (job : CoreJob) (s : State) (holder : ℕ → Option ℕ) → IsPlan job.plan → HoldersFit s.task holder

@@ -7,6 +7,7 @@ use Rattle.core_model.proofs.Inductive.Ticks.{Stamp, Drawn, StartOf, EndOf, Star
 use Rattle.core_model.proofs.Inductive.Parts.{InductiveParts}
 use Rattle.core_model.proofs.BookLemmas.Room.{distinct_few}
 use Rattle.core_model.proofs.InvariantLemmas.InRange.{standing_in}
+use Rattle.std.proofs.lemmas.Option.{same_Some}
 
 abbrev code : Drawn → ℕ
 code (StartOf n) = 2 * n
@@ -25,12 +26,9 @@ same_start : (s : Option Stamp) (t u : ℕ) → StartsAt s t → StartsAt s u �
 same_start None t u a b = absurd a
 same_start (Some s) t u a b = sym a ∙ b
 
-same_some : (t u : ℕ) → Some t ≡ Some u → t ≡ u
-same_some t u e = cc
-
 same_end : (s : Option Stamp) (t u : ℕ) → EndsAt s t → EndsAt s u → t ≡ u
 same_end None t u a b = absurd a
-same_end (Some s) t u a b = same_some t u (sym a ∙ b)
+same_end (Some s) t u a b = same_Some t u (sym a ∙ b)
 
 start_known : (s : Option Stamp) (t : ℕ) → StartsAt s t → s ≢ None
 start_known None t a e = a

@@ -16,11 +16,11 @@ use Rattle.batch_history.specs.Operations.{act_of, op_in, op_of}
 use Rattle.sp_order.specs.Sources.{IsCallLeaf}
 use Rattle.batch_history.proofs.ActLemmas.{called_as}
 use Rattle.core_model.specs.Reports.{IsRowOf, IsReportOf}
-use Rattle.batch_history.proofs.BookLemmas.EntryLists.{each_so, each_at, each_mapped}
 use Rattle.core_model.proofs.ReportLemmas.EndedRuns.{IsEnded}
 use Rattle.core_model.proofs.ReportLemmas.RowTicks.{row_starts_first, ticks_each_once}
 use Rattle.core_model.proofs.ReportLemmas.RowOrder.{IsRowAt, row_at, before_ended, alone_ended}
 use Rattle.core_model.proofs.ReportLemmas.RowCalls.{contained, calls, call_in, worker_is, entry_earlier, work_valued, call_valued}
+use Rattle.seq_objects.proofs.Elements.{each_so, each_mapped, each_at}
 
 -- what is found in a choice
 in_some : {A : Type 0} (P : A → Type 0) (o : Option A) → IsSomeAnd o P → (x : A) × (o ≡ Some x) × P x

@@ -1,25 +1,22 @@
 -- A state has one report at most.
-use Rattle.std.proofs.Common.{ℕ, ◌≡◌, Some, List, [], ◌∷◌, map, refl, sym, ◌∙◌, ap}
+use Rattle.std.proofs.Common.{ℕ, ◌≡◌, List, [], ◌∷◌, map, refl, sym, ◌∙◌, ap}
 use Rattle.std.specs.List.{AllByRecursion}
 use Rattle.batch_history.specs.declared.row.Row.{Row}
 use Rattle.batch_history.specs.declared.report.Report.{Report}
 use Rattle.core_model.proofs.Words.{Ran, CoreJob, State}
 use Rattle.core_model.specs.Reports.{IsRowOf, IsReportOf}
+use Rattle.std.proofs.lemmas.Option.{same_Some}
 
 -- a leaf ran once
 pub same_ran : (v w s t d e : ℕ) → Ran v s d ≡ Ran w t e → (v ≡ w) × (s ≡ t) × (d ≡ e)
 same_ran v w s t d e h = (cc, cc, cc)
-
--- a value is one
-pub same_some : (x y : ℕ) → Some x ≡ Some y → x ≡ y
-same_some x y h = cc
 
 module _ (job : CoreJob) (s : State) where
   -- a row is determined by its leaf
   one_row : (a b : Row) → a.leaf ≡ b.leaf → IsRowOf job s a → IsRowOf job s b → a ≡ b
   one_row a b leaf h g =
       let ran = same_ran a.worker b.worker a.start b.start a.end b.end (sym h.ran ∙ ap (λ l. s.node (job.plan.node_of l)) leaf ∙ g.ran) in
-      let value = same_some a.value b.value (sym h.value ∙ ap (λ l. s.value (job.plan.node_of l)) leaf ∙ g.value) in
+      let value = same_Some a.value b.value (sym h.value ∙ ap (λ l. s.value (job.plan.node_of l)) leaf ∙ g.value) in
       λ i. record { leaf = leaf i; worker = ran.0 i; start = ran.1 i; end = ran.2 i; value = value i }
 
   -- and rows by their leaves

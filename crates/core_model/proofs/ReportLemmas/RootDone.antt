@@ -24,7 +24,7 @@ no_task (Whole n) plan node mark none h = absurd (none h.1 h.3)
 no_task (Handed p) plan node mark none h = absurd (none p h.3)
 
 -- a status that is not trapped is free
-is_free : (status : Status) → (status ≢ Free → ⊥) → status ≡ Free
+pub is_free : (status : Status) → (status ≢ Free → ⊥) → status ≡ Free
 is_free Free h = refl
 is_free Pending h = absurd (h (λ e. cc))
 is_free Executing h = absurd (h (λ e. cc))

@@ -12,12 +12,13 @@ use Rattle.core_model.specs.Operations.{op_in, op_of, IsCall, Place}
 use Rattle.core_model.proofs.BookLemmas.Operations.{is_call}
 use Rattle.core_model.specs.Invariant.Values.{IsValue}
 use Rattle.core_model.specs.Invariant.Membership.{IsBooked}
-use Rattle.batch_history.proofs.BookLemmas.EntryLists.{each_at}
+use Rattle.seq_objects.proofs.Elements.{each_at}
 use Rattle.batch_history.proofs.BookLemmas.Books.{found_in_book}
 use Rattle.core_model.proofs.ReportLemmas.EndedRuns.{IsEnded}
 use Rattle.core_model.proofs.BookLemmas.EntryPlaces.{leaves_of, contains_leaf, in_flat, entry_placed, entry_there, one_entry}
-use Rattle.core_model.proofs.ReportLemmas.OneReport.{same_ran, same_some}
+use Rattle.core_model.proofs.ReportLemmas.OneReport.{same_ran}
 use Rattle.core_model.proofs.ReportLemmas.RowOrder.{IsRowAt}
+use Rattle.std.proofs.lemmas.Option.{same_Some}
 
 -- a list contains each of its entries
 pub contained : (es : List Entry) → AllByRecursion (Contains es) es
@@ -73,7 +74,7 @@ module _ (job : CoreJob) (total : ℕ) (s : State) (h : IsEnded job total s) whe
   value_at leaf act row is at =
       let done : is_done (s.node (job.plan.node_of leaf)) ≡ true = rw at.ran refl in
       let value = h.parts.values.values (job.plan.node_of leaf) leaf (h.kind leaf at.low) (inl done) in
-      let same = same_some value.0 row.value (sym value.1 ∙ at.value) in
+      let same = same_Some value.0 row.value (sym value.1 ∙ at.value) in
       subst (IsValue s.book leaf act) same (rw is at value.2)
 
   -- the value of a leaf that works

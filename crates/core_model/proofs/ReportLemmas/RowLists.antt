@@ -6,7 +6,7 @@ use Rattle.std.proofs.lemmas.Option.{get_or_from_slice_get, slice_get_within}
 use Rattle.std.proofs.lemmas.List.Elements.{Contains-append_right}
 use Rattle.batch_history.specs.Lawful.{ticks_of}
 use Rattle.batch_history.specs.declared.row.Row.{Row}
-use Rattle.batch_history.proofs.BookLemmas.EntryLists.{each_at}
+use Rattle.seq_objects.proofs.Elements.{each_at}
 
 -- the rows are those of `count` leaves, from leaf `first` on
 abbrev pub AreRowsOf : List Row → ℕ → ℕ → Type 0

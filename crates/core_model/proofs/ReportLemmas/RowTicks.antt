@@ -10,10 +10,11 @@ use Rattle.batch_history.specs.declared.row.Row.{Row}
 use Rattle.core_model.proofs.Words.{Ran, Idle, CoreJob, State}
 use Rattle.core_model.specs.Invariant.Ticks.{IsStartedAs, Draw, start_of, end_of, start_by, end_by, IsDrawn}
 use Rattle.core_model.specs.Reports.{IsRowOf}
-use Rattle.batch_history.proofs.BookLemmas.EntryLists.{each_so, each_at, distinct_tests}
+use Rattle.batch_history.proofs.BookLemmas.EntryLists.{distinct_tests}
 use Rattle.core_model.proofs.ReportLemmas.EndedRuns.{IsEnded}
 use Rattle.core_model.proofs.ReportLemmas.RowLists.{AreRowsOf, each_got, row_is, row_there, ticks_length, ticks_in}
 use Rattle.core_model.proofs.ReportLemmas.OneReport.{same_ran}
+use Rattle.seq_objects.proofs.Elements.{each_so, each_at}
 
 module _ (job : CoreJob) (total : ℕ) (s : State) (h : IsEnded job total s) where
   -- the tick is the start or the end of the leaf

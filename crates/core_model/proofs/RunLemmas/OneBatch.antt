@@ -9,8 +9,8 @@ use Rattle.seq_objects.specs.Pairs.{AllPairsByRecursion, AreDistinct}
 use Rattle.batch_history.specs.Book.{IsLegalFrom}
 use Rattle.core_model.specs.Serving.{served}
 use Rattle.core_model.specs.Events.{has_taken, IsTakenCall, IsBatchOf, published, Does}
-use Rattle.batch_history.proofs.BookLemmas.EntryLists.{each_so, each_both, each_at}
 use Rattle.seq_objects.proofs.CallOrder.{one_way}
+use Rattle.seq_objects.proofs.Elements.{each_so, each_both, each_at}
 
 -- an entry of the list has this worker
 abbrev HasWorker : List Entry → ℕ → Type 0

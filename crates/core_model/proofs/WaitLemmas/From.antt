@@ -25,7 +25,7 @@ record ComesFrom (job : CoreJob) (s : State) (w since : ℕ) : Type 0 where
   place : StandsFrom (task_place job s.book (s.task w)) since
 
 -- a worker that is pending is not booked
-pending_booked : (x : Progress) (o : Option ℕ) (task : ℕ → Task) (status : ℕ → Status) (call : ℕ → CallState) (b : Bool) (w n a : ℕ)
+pub pending_booked : (x : Progress) (o : Option ℕ) (task : ℕ → Task) (status : ℕ → Status) (call : ℕ → CallState) (b : Bool) (w n a : ℕ)
     → x ≡ Taken → o ≡ Some w → task w ≡ Started n a → status w ≡ Pending → call w ≡ Out → booked_by x o task status call b ≡ None
 pending_booked x o task status call b w n a taken held started pending out = grind arith
 

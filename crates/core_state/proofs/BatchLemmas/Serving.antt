@@ -16,12 +16,12 @@ use Rattle.core_model.specs.Events.{IsTakenCall}
 use Rattle.core_model.specs.Batches.{IsCallOf, AreTakenCalls}
 use Rattle.core_model.proofs.Inductive.Parts.{InductiveParts}
 use Rattle.batch_history.proofs.ActLemmas.{from_calls}
-use Rattle.batch_history.proofs.BookLemmas.EntryLists.{each_append, each_front, each_so, each_mapped, distinct_back}
 use Rattle.batch_history.proofs.BookLemmas.Books.{flat_append}
 use Rattle.core_model.proofs.BookLemmas.Room.{distinct_few, leaves_call}
 use Rattle.core_model.proofs.InvariantLemmas.Publish.{leaves_apart}
 use Rattle.core_model.proofs.BatchLemmas.Replied.{replied, replied_are}
 use Rattle.core_model.proofs.BatchLemmas.Made.{taken_below, only_taken}
+use Rattle.seq_objects.proofs.Elements.{each_append, each_front, each_so, each_mapped, distinct_back}
 
 -- if two lists together are distinct, they share no number
 across : (xs ys : List ℕ) → AreDistinct (xs ++ ys) → AllByRecursion (λ x. AllByRecursion (λ y. x ≢ y) ys) xs

@@ -13,7 +13,7 @@ use Rattle.table_rule.specs.Words.{node_at, value_at, progress_code, worker_in, 
 use Rattle.table_rule.specs.Laws.{Laws}
 use Rattle.core_table.specs.Closing.{RowInWords}
 use Rattle.table_rule.proofs.TableLemmas.Words.{worker_of, start_of, end_of}
-use Rattle.table_rule.proofs.ListLemmas.Lists.{each_so}
+use Rattle.seq_objects.proofs.Elements.{each_so}
 
 value_is : (o : Maybe ℕ) (word : ℕ) → o ≢ None → HasValue o word → o ≡ Some word
 value_is None word some_value h = absurd (some_value refl)

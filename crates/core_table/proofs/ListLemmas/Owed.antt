@@ -18,11 +18,11 @@ use Rattle.table_rule.specs.Passes.{call_by, without_first, new_hold, after_take
 use Rattle.table_rule.specs.HoldsSlots.{vacant}
 use Rattle.table_rule.specs.TracksHold.{Owes, TracksHold}
 use Rattle.core_table.specs.Code.Turns.{turns, IsFirstAt}
-use Rattle.table_rule.proofs.ListLemmas.Lists.{each_so}
-use Rattle.table_rule.proofs.ListLemmas.Last.{if_yes, if_no, took_put, among_put, distinct_last}
-
-true_false : (b : Bool) → b ≡ true → b ≡ false → ⊥
-true_false b e f = absurd (cc)
+use Rattle.seq_objects.proofs.Elements.{each_so}
+use Rattle.table_rule.proofs.ListLemmas.Last.{took_put, among_put, distinct_last}
+use Rattle.table_rule.proofs.TableLemmas.Facts.{true_is_false}
+use Rattle.std.proofs.lemmas.Option.{same_Some}
+use Rattle.core_model.proofs.BookLemmas.OwnEntries.{if_other, if_same}
 
 -- membership in a list with one more at its end
 among_front : (xs ys : List ℕ) (v : ℕ) → among xs v ≡ true → among (xs ++ ys) v ≡ true
@@ -30,57 +30,57 @@ among_front [] ys v e = absurd (cc)
 among_front (x ∷ xs) ys v e = let more = among_front xs ys v in grind (arith, nat_tests, more)
 
 among_last : (xs : List ℕ) (u : ℕ) → among (xs ++ u ∷ []) u ≡ true
-among_last [] u = if_yes u u true false refl
+among_last [] u = if_same u u true false refl
 among_last (x ∷ xs) u = let more = among_last xs u in grind (arith, nat_tests, more)
 
 among_either : (xs : List ℕ) (u v : ℕ) → among (xs ++ u ∷ []) v ≡ true → v ≢ u → among xs v ≡ true
-among_either [] u v e ne = absurd (true_false (if v == u then true else false) e (if_no v u true false ne))
+among_either [] u v e ne = absurd (true_is_false (if v == u then true else false) e (if_other v u true false ne))
 among_either (x ∷ xs) u v e ne = let more = among_either xs u v in grind (arith, nat_tests, more)
 
 -- membership after the first occurrence of a number is removed
 among_without : (xs : List ℕ) (u v : ℕ) → v ≢ u → among xs v ≡ true → among (without_first u xs) v ≡ true
 among_without [] u v ne e = e
 among_without (x ∷ xs) u v ne e = elim (cases_eq x u) [
-  | inl is ↦ let f : among xs v ≡ true = sym (if_no v x true (among xs v) (λ g. ne (g ∙ is))) ∙ e in rw (if_yes x u xs (x ∷ without_first u xs) is) f
-  | inr other ↦ rw (if_no x u xs (x ∷ without_first u xs) other) (elim (cases_eq v x) [
-    | inl is ↦ if_yes v x true (among (without_first u xs) v) is
-    | inr apart ↦ if_no v x true (among (without_first u xs) v) apart ∙ among_without xs u v ne (sym (if_no v x true (among xs v) apart) ∙ e)
+  | inl is ↦ let f : among xs v ≡ true = sym (if_other v x true (among xs v) (λ g. ne (g ∙ is))) ∙ e in rw (if_same x u xs (x ∷ without_first u xs) is) f
+  | inr other ↦ rw (if_other x u xs (x ∷ without_first u xs) other) (elim (cases_eq v x) [
+    | inl is ↦ if_same v x true (among (without_first u xs) v) is
+    | inr apart ↦ if_other v x true (among (without_first u xs) v) apart ∙ among_without xs u v ne (sym (if_other v x true (among xs v) apart) ∙ e)
   ])
 ]
 
 within : (xs : List ℕ) (u v : ℕ) → among (without_first u xs) v ≡ true → among xs v ≡ true
 within [] u v e = e
 within (x ∷ xs) u v e = elim (cases_eq v x) [
-  | inl is ↦ if_yes v x true (among xs v) is
-  | inr apart ↦ if_no v x true (among xs v) apart ∙ elim (cases_eq x u) [
-    | inl is ↦ rw (if_yes x u xs (x ∷ without_first u xs) is) at e
-    | inr other ↦ let f = rw (if_no x u xs (x ∷ without_first u xs) other) at e in within xs u v (sym (if_no v x true (among (without_first u xs) v) apart) ∙ f)
+  | inl is ↦ if_same v x true (among xs v) is
+  | inr apart ↦ if_other v x true (among xs v) apart ∙ elim (cases_eq x u) [
+    | inl is ↦ rw (if_same x u xs (x ∷ without_first u xs) is) at e
+    | inr other ↦ let f = rw (if_other x u xs (x ∷ without_first u xs) other) at e in within xs u v (sym (if_other v x true (among (without_first u xs) v) apart) ∙ f)
   ]
 ]
 
 not_among : (xs : List ℕ) (u : ℕ) → AllByRecursion (λ y. u ≢ y) xs → among xs u ≡ false
 not_among [] u h = refl
-not_among (x ∷ xs) u h = if_no u x true (among xs u) h.0 ∙ not_among xs u h.1
+not_among (x ∷ xs) u h = if_other u x true (among xs u) h.0 ∙ not_among xs u h.1
 
 gone : (xs : List ℕ) (u : ℕ) → AreDistinct xs → among (without_first u xs) u ≡ false
 gone [] u h = refl
 gone (x ∷ xs) u h = elim (cases_eq x u) [
-  | inl is ↦ rw (if_yes x u xs (x ∷ without_first u xs) is) (not_among xs u (each_so (λ y. x ≢ y) (λ y. u ≢ y) (λ y ne e. ne (is ∙ e)) xs h.0))
-  | inr other ↦ rw (if_no x u xs (x ∷ without_first u xs) other) (if_no u x true (among (without_first u xs) u) (λ e. other (sym e)) ∙ gone xs u h.1)
+  | inl is ↦ rw (if_same x u xs (x ∷ without_first u xs) is) (not_among xs u (each_so (λ y. x ≢ y) (λ y. u ≢ y) (λ y ne e. ne (is ∙ e)) xs h.0))
+  | inr other ↦ rw (if_other x u xs (x ∷ without_first u xs) other) (if_other u x true (among (without_first u xs) u) (λ e. other (sym e)) ∙ gone xs u h.1)
 ]
 
 each_without : (P : ℕ → Type 0) (xs : List ℕ) (u : ℕ) → AllByRecursion P xs → AllByRecursion P (without_first u xs)
 each_without P [] u h = h
 each_without P (x ∷ xs) u h = elim (cases_eq x u) [
-  | inl is ↦ rw (if_yes x u xs (x ∷ without_first u xs) is) h.1
-  | inr other ↦ rw (if_no x u xs (x ∷ without_first u xs) other) (h.0, each_without P xs u h.1)
+  | inl is ↦ rw (if_same x u xs (x ∷ without_first u xs) is) h.1
+  | inr other ↦ rw (if_other x u xs (x ∷ without_first u xs) other) (h.0, each_without P xs u h.1)
 ]
 
 distinct_without : (xs : List ℕ) (u : ℕ) → AreDistinct xs → AreDistinct (without_first u xs)
 distinct_without [] u h = h
 distinct_without (x ∷ xs) u h = elim (cases_eq x u) [
-  | inl is ↦ rw (if_yes x u xs (x ∷ without_first u xs) is) h.1
-  | inr other ↦ rw (if_no x u xs (x ∷ without_first u xs) other) (each_without (λ y. x ≢ y) xs u h.0, distinct_without xs u h.1)
+  | inl is ↦ rw (if_same x u xs (x ∷ without_first u xs) is) h.1
+  | inr other ↦ rw (if_other x u xs (x ∷ without_first u xs) other) (each_without (λ y. x ≢ y) xs u h.0, distinct_without xs u h.1)
 ]
 
 later : (y x : ℕ) (xs : List ℕ) → among xs y ≡ true → among (x ∷ xs) y ≡ true
@@ -88,28 +88,28 @@ later y x xs e = grind (arith, nat_tests)
 
 each_among : (P : ℕ → Type 0) (xs : List ℕ) → ((y : ℕ) → among xs y ≡ true → P y) → AllByRecursion P xs
 each_among P [] h = tt
-each_among P (x ∷ xs) h = (h x (if_yes x x true (among xs x) refl), each_among P xs (λ y e. h y (later y x xs e)))
+each_among P (x ∷ xs) h = (h x (if_same x x true (among xs x) refl), each_among P xs (λ y e. h y (later y x xs e)))
 
 fewer : (xs : List ℕ) (u : ℕ) → length (without_first u xs) ≤ length xs
 fewer [] u = omega arith
 fewer (x ∷ xs) u = elim (cases_eq x u) [
-  | inl is ↦ rw (if_yes x u xs (x ∷ without_first u xs) is) (omega arith)
-  | inr other ↦ let more = fewer xs u in rw (if_no x u xs (x ∷ without_first u xs) other) (omega (arith, more))
+  | inl is ↦ rw (if_same x u xs (x ∷ without_first u xs) is) (omega arith)
+  | inr other ↦ let more = fewer xs u in rw (if_other x u xs (x ∷ without_first u xs) other) (omega (arith, more))
 ]
 
 -- a hold just won owes no receipt
 pub owes_new : (book : List (List Entry)) → Owes (new_hold book)
 owes_new book = record {
-  each = λ u e f. absurd (true_false false e refl);
-  only = λ u e. absurd (true_false false e refl);
+  each = λ u e f. absurd (true_is_false false e refl);
+  only = λ u e. absurd (true_is_false false e refl);
   distinct = tt;
   few = omega arith;
-  below = λ u e. absurd (true_false false e refl);
+  below = λ u e. absurd (true_is_false false e refl);
   early = λ e. refl;
 }
 
 took_either : (v : ℕ) (call : Call) (taken : List Call) → took_in (taken ++ call ∷ []) v ≡ true → v ≢ call.worker → took_in taken v ≡ true
-took_either v call taken e ne = sym (if_no v call.worker true (took_in taken v) ne) ∙ (sym (took_put taken call v) ∙ e)
+took_either v call taken e ne = sym (if_other v call.worker true (took_in taken v) ne) ∙ (sym (took_put taken call v) ∙ e)
 
 -- after a take it owes one more
 pub owes_taken : (h : HoldView) (call : OpRecord) → h.published ≡ false → Owes h → Owes (after_take (call_by h.looks call) h)
@@ -122,8 +122,8 @@ owes_taken h call unpublished o =
         | inr ne ↦ among_front h.owed (u ∷ []) v (o.each v (took_either v mine h.taken took ne) yet)
       ];
       only = λ v e. elim (cases_eq v u) [
-        | inl is ↦ (took_put h.taken mine v ∙ if_yes v u true (took_in h.taken v) is, rw (o.early unpublished) refl)
-        | inr ne ↦ let was = o.only v (among_either h.owed u v e ne) in (took_put h.taken mine v ∙ (if_no v u true (took_in h.taken v) ne ∙ was.0), was.1)
+        | inl is ↦ (took_put h.taken mine v ∙ if_same v u true (took_in h.taken v) is, rw (o.early unpublished) refl)
+        | inr ne ↦ let was = o.only v (among_either h.owed u v e ne) in (took_put h.taken mine v ∙ (if_other v u true (took_in h.taken v) ne ∙ was.0), was.1)
       ];
       distinct = distinct_last h.owed u o.distinct (each_among (λ y. y ≢ u) h.owed (λ y e is. let low = o.below y (o.only y e).0 in absurd (omega (arith, low, is))));
       few = omega (arith, long, o.few);
@@ -138,36 +138,33 @@ pub owes_passed : (h : HoldView) (status : ℕ) → Owes h → Owes (after_pass 
 owes_passed h status o = record { each = o.each; only = o.only; distinct = o.distinct; few = omega (arith, o.few); below = λ v took. let low = o.below v took in omega (arith, low); early = o.early }
 
 pub owes_published : (h : HoldView) (batch : List Entry) → Owes h → Owes (after_publish batch h)
-owes_published h batch o = record { each = o.each; only = o.only; distinct = o.distinct; few = o.few; below = o.below; early = λ e. absurd (true_false true refl e) }
+owes_published h batch o = record { each = o.each; only = o.only; distinct = o.distinct; few = o.few; below = o.below; early = λ e. absurd (true_is_false true refl e) }
 
 -- after an answer it owes one less
 pub owes_answered : (h : HoldView) (u : ℕ) → h.published ≡ true → Owes h → Owes (after_answer u h)
 owes_answered h u published o =
     let less = fewer h.owed u in record {
       each = λ v took yet. elim (cases_eq v u) [
-        | inl is ↦ absurd (true_false (among (h.answered ++ u ∷ []) v) (among_put h.answered u v ∙ if_yes v u true (among h.answered v) is) yet)
-        | inr ne ↦ among_without h.owed u v ne (o.each v took (sym (if_no v u true (among h.answered v) ne) ∙ (sym (among_put h.answered u v) ∙ yet)))
+        | inl is ↦ absurd (true_is_false (among (h.answered ++ u ∷ []) v) (among_put h.answered u v ∙ if_same v u true (among h.answered v) is) yet)
+        | inr ne ↦ among_without h.owed u v ne (o.each v took (sym (if_other v u true (among h.answered v) ne) ∙ (sym (among_put h.answered u v) ∙ yet)))
       ];
       only = λ v e. elim (cases_eq v u) [
-        | inl is ↦ absurd (true_false (among (without_first u h.owed) u) (subst (λ y. among (without_first u h.owed) y ≡ true) is e) (gone h.owed u o.distinct))
-        | inr ne ↦ let was = o.only v (within h.owed u v e) in (was.0, among_put h.answered u v ∙ (if_no v u true (among h.answered v) ne ∙ was.1))
+        | inl is ↦ absurd (true_is_false (among (without_first u h.owed) u) (subst (λ y. among (without_first u h.owed) y ≡ true) is e) (gone h.owed u o.distinct))
+        | inr ne ↦ let was = o.only v (within h.owed u v e) in (was.0, among_put h.answered u v ∙ (if_other v u true (among h.answered v) ne ∙ was.1))
       ];
       distinct = distinct_without h.owed u o.distinct;
       few = omega (arith, less, o.few);
       below = o.below;
-      early = λ e. absurd (true_false h.published published e);
+      early = λ e. absurd (true_is_false h.published published e);
     }
 
 none_owed : (xs : List ℕ) → ((u : ℕ) → among xs u ≡ true → ⊥) → xs ≡ []
 none_owed [] h = refl
-none_owed (x ∷ xs) h = absurd (h x (if_yes x x true (among xs x) refl))
+none_owed (x ∷ xs) h = absurd (h x (if_same x x true (among xs x) refl))
 
 -- it owes none once every taken worker is answered
 pub owes_nobody : (h : HoldView) → Owes h → ((u : ℕ) → took_in h.taken u ≡ true → among h.answered u ≡ true) → h.owed ≡ []
-owes_nobody h o all = none_owed h.owed (λ u e. true_false (among h.answered u) (all u (o.only u e).0) (o.only u e).1)
-
-some_hold : (a b : HoldView) → Some a ≡ Some b → a ≡ b
-some_hold a b e = cc
+owes_nobody h o all = none_owed h.owed (λ u e. true_is_false (among h.answered u) (all u (o.only u e).0) (o.only u e).1)
 
 held_some : (a : Maybe HoldView) (h : HoldView) → a ≡ Some h → a ≡ None → ⊥
 held_some a h e f = absurd (cc)
@@ -180,7 +177,7 @@ remembers_kept v w owed published same m = record { none = λ e. m.none (sym sam
 pub remembers_hold : (w : View) (owed : List ℕ) (published : Bool) (h : HoldView) → w.own.hold ≡ Some h → owed ≡ h.owed → published ≡ h.published → Owes h → TracksHold w owed published
 remembers_hold w owed published h holds same told o = record {
   none = λ e. absurd (held_some w.own.hold h holds e);
-  holds = λ g e. subst (λ (z : HoldView). (owed ≡ z.owed) × (published ≡ z.published) × Owes z) (some_hold h g (sym holds ∙ e)) (same, told, o);
+  holds = λ g e. subst (λ (z : HoldView). (owed ≡ z.owed) × (published ≡ z.published) × Owes z) (same_Some h g (sym holds ∙ e)) (same, told, o);
 }
 
 pub remembers_none : (w : View) (owed : List ℕ) (published : Bool) → w.own.hold ≡ None → owed ≡ [] → TracksHold w owed published
@@ -203,30 +200,30 @@ turns_all (x ∷ xs) ys =
 -- the first occurrence of a number satisfies `IsFirstAt`
 pub first_at : (xs : List ℕ) (u i : ℕ) → i < length xs → get_or xs i 0 ≡ u → among (take i xs) u ≡ false → IsFirstAt xs u i
 first_at [] u i low is yet = absurd (omega (arith, low))
-first_at (x ∷ xs) u zero low is yet = record { low = low; split = ap (λ y. y ∷ xs) is; rest = if_yes x u xs (x ∷ without_first u xs) is }
+first_at (x ∷ xs) u zero low is yet = record { low = low; split = ap (λ y. y ∷ xs) is; rest = if_same x u xs (x ∷ without_first u xs) is }
 first_at (x ∷ xs) u (suc i) low is yet =
-    let other : u ≢ x = λ e. true_false (if u == x then true else among (take i xs) u) (if_yes u x true (among (take i xs) u) e) yet in
-    let more = first_at xs u i (omega (arith, low)) is (sym (if_no u x true (among (take i xs) u) other) ∙ yet) in record {
+    let other : u ≢ x = λ e. true_is_false (if u == x then true else among (take i xs) u) (if_same u x true (among (take i xs) u) e) yet in
+    let more = first_at xs u i (omega (arith, low)) is (sym (if_other u x true (among (take i xs) u) other) ∙ yet) in record {
       low = low;
       split = ap (λ l. x ∷ l) more.split;
-      rest = if_no x u xs (x ∷ without_first u xs) (λ e. other (sym e)) ∙ ap (λ l. x ∷ l) more.rest;
+      rest = if_other x u xs (x ∷ without_first u xs) (λ e. other (sym e)) ∙ ap (λ l. x ∷ l) more.rest;
     }
 
 pub among_next : (xs : List ℕ) (i u : ℕ) → i < length xs → get_or xs i 0 ≢ u → among (take i xs) u ≡ false → among (take (i + 1) xs) u ≡ false
 among_next [] i u low ne yet = absurd (omega (arith, low))
-among_next (x ∷ xs) zero u low ne yet = if_no u x true false (λ e. ne (sym e))
+among_next (x ∷ xs) zero u low ne yet = if_other u x true false (λ e. ne (sym e))
 among_next (x ∷ xs) (suc i) u low ne yet =
-    let other : u ≢ x = λ e. true_false (if u == x then true else among (take i xs) u) (if_yes u x true (among (take i xs) u) e) yet in
-    let more = among_next xs i u (omega (arith, low)) ne (sym (if_no u x true (among (take i xs) u) other) ∙ yet) in
+    let other : u ≢ x = λ e. true_is_false (if u == x then true else among (take i xs) u) (if_same u x true (among (take i xs) u) e) yet in
+    let more = among_next xs i u (omega (arith, low)) ne (sym (if_other u x true (among (take i xs) u) other) ∙ yet) in
     let next : suc i + 1 ≡ suc (i + 1) = omega arith in
-    ap (λ n. among (take n (x ∷ xs)) u) next ∙ (if_no u x true (among (take (i + 1) xs) u) other ∙ more)
+    ap (λ n. among (take n (x ∷ xs)) u) next ∙ (if_other u x true (among (take (i + 1) xs) u) other ∙ more)
 
 pub all_passed : (xs : List ℕ) (i u : ℕ) → length xs ≤ i → among (take i xs) u ≡ false → among xs u ≡ true → ⊥
-all_passed [] i u all yet is = absurd (true_false false is refl)
+all_passed [] i u all yet is = absurd (true_is_false false is refl)
 all_passed (x ∷ xs) zero u all yet is = absurd (omega (arith, all))
 all_passed (x ∷ xs) (suc i) u all yet is =
-    let other : u ≢ x = λ e. true_false (if u == x then true else among (take i xs) u) (if_yes u x true (among (take i xs) u) e) yet in
-    all_passed xs i u (omega (arith, all)) (sym (if_no u x true (among (take i xs) u) other) ∙ yet) (sym (if_no u x true (among xs u) other) ∙ is)
+    let other : u ≢ x = λ e. true_is_false (if u == x then true else among (take i xs) u) (if_same u x true (among (take i xs) u) e) yet in
+    all_passed xs i u (omega (arith, all)) (sym (if_other u x true (among (take i xs) u) other) ∙ yet) (sym (if_other u x true (among xs u) other) ∙ is)
 
 length_front : (xs : List ℕ) (i : ℕ) → i ≤ length xs → length (take i xs) ≡ i
 length_front xs zero low = refl

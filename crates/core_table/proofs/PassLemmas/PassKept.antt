@@ -25,6 +25,7 @@ use Rattle.table_rule.specs.TracksHold.{TracksHold}
 use Rattle.core_table.proofs.ListLemmas.Owed.{remembers_kept}
 use Rattle.core_table.specs.Passes.{IsSeatOf, LooksFit}
 use Rattle.table_rule.specs.Tasks.{TaskHere, job_seen}
+use Rattle.std.proofs.lemmas.Option.{same_Some}
 
 holder_kept : (b : Bool) (v w : View) (h : HoldView) (xs : List (ℕ × Slot)) → w.workers ≡ v.workers → w.room ≡ v.room → HolderCarries b v h xs → HolderCarries b w h xs
 holder_kept false v w h xs a b m = rw (a, b) m
@@ -105,12 +106,9 @@ turned_to m n v xs e f = f ∙ ap (λ (z : SeatState). (z.0, turned z.1)) e
 none_out : (a : HoldView) → None ≡ Some a → ⊥
 none_out a e = cc
 
-pub same_hold : (a b : HoldView) → Some a ≡ Some b → a ≡ b
-same_hold a b e = cc
-
 -- the hold after a step of it
 hold_after : (f : HoldView → HoldView) (o : Maybe HoldView) (h g : HoldView) → o ≡ Some h → in_hold f o ≡ Some g → f h ≡ g
-hold_after f o h g is e = same_hold (f h) g (sym (ap (in_hold f) is) ∙ e)
+hold_after f o h g is e = same_Some (f h) g (sym (ap (in_hold f) is) ∙ e)
 
 some_after : (f : HoldView → HoldView) (o : Maybe HoldView) (h : HoldView) → o ≡ Some h → in_hold f o ≡ None → ⊥
 some_after f o h is e = none_out (f h) (sym e ∙ ap (in_hold f) is)
@@ -129,7 +127,7 @@ pub carries_won : (k workers : ℕ) (v : View) (history : List (List Entry)) →
 carries_won k workers v history out wide = record {
   free = λ ne. absurd (ne out);
   trapped = λ _ e. absurd (cc);
-  holds = λ h is. subst (λ (z : HoldView). HolderCarries z.published (with_step (winning history) v) z ((workers + 1, Slots.Book (reserved history v.room)) ∷ (workers, Slots.Vacant) ∷ [])) (same_hold _ h is)
+  holds = λ h is. subst (λ (z : HoldView). HolderCarries z.published (with_step (winning history) v) z ((workers + 1, Slots.Book (reserved history v.room)) ∷ (workers, Slots.Vacant) ∷ [])) (same_Some _ h is)
       (rw wide refl);
 }
 
@@ -177,9 +175,6 @@ holder_list k workers room me h is early wide roomy m =
 -- the content that an exchange of the head found
 pub found_slot : (m : SeatState) (v : View) (k : ℕ) (x y : Slot) (xs ys : List (ℕ × Slot)) → m ≡ (v, (k, y) ∷ xs) → m.1 ≡ (k, x) ∷ ys → y ≡ x
 found_slot m v k x y xs ys e f = ap (λ (l : List (ℕ × Slot)). (get_or l 0 (k, x)).1) (sym (ap (λ (z : SeatState). z.1) e) ∙ f)
-
-pub same_receipt : (r q : Receipt) → Slots.Receipt r ≡ Slots.Receipt q → r ≡ q
-same_receipt r q e = cc
 
 pub same_record : (a b : OpRecord) → Slots.Record a ≡ Slots.Record b → a ≡ b
 same_record a b e = cc

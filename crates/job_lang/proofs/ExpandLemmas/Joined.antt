@@ -6,11 +6,7 @@ use Rattle.sp_order.specs.Precedence.{Tree, leaf, seq, par, leaves, leaf_count, 
 use Rattle.job_lang.specs.Joins.{join_within, join_of, both, half}
 use Rattle.job_lang.specs.Meaning.{join_list}
 use Rattle.job_lang.proofs.ExpandLemmas.Before.{total, kind_by, IsBeforeIn, IsBeforeOpt}
-
-either : (v m : ℕ) → (v < m) ⊎ (m ≤ v)
-either v zero = inr (omega arith)
-either zero (suc m) = inl (omega arith)
-either (suc v) (suc m) = elim (either v m) [ inl h ↦ inl (omega (arith, h)) | inr h ↦ inr (omega (arith, h)) ]
+use Rattle.std.proofs.lemmas.Bool.{cases_lt}
 
 pub total_append : (xs ys : List Tree) → total (xs ++ ys) ≡ total xs + total ys
 total_append [] ys = omega arith
@@ -43,7 +39,7 @@ split series first (x ∷ xs) ys u v (inr (inl b)) =
 split series first (x ∷ xs) ys u v (inr (inr c)) =
     let a = c.1.0.0 in let b = c.1.0.1 in let d = c.1.1.0 in let e = c.1.1.1 in
     let long = total_append xs ys in
-    elim (either v (first + leaves x + total xs)) [
+    elim (cases_lt v (first + leaves x + total xs)) [
       | inl low ↦ inl (inr (inr (c.0, ((a, b), (d, low)))))
       | inr high ↦ inr (inr (c.0, ((a, omega (arith, b)), (omega (arith, high), omega (arith, e, long)))))
     ]
@@ -67,7 +63,7 @@ pub before_cross : (first : ℕ) (xs ys : List Tree) (u v : ℕ) → first ≤ u
 before_cross first [] ys u v a b d e = absurd (omega (arith, a, b))
 before_cross first (x ∷ xs) ys u v a b d e =
     let long = total_append xs ys in
-    elim (either u (first + leaves x)) [
+    elim (cases_lt u (first + leaves x)) [
       | inl low ↦ inr (inr (refl, ((a, low), (omega (arith, d), omega (arith, e, long)))))
       | inr high ↦ inr (inl (before_cross (first + leaves x) xs ys u v high (omega (arith, b)) (omega (arith, d)) (omega (arith, e))))
     ]

@@ -1,5 +1,5 @@
 -- How the code keeps the objects that leaves name.
-use Rattle.std.proofs.Common.{◌≡◌, ℕ, ◌+◌, ◌-◌, ◌<◌, ◌≤◌, ◌⊎◌, inl, inr, List, [], ◌∷◌, ◌++◌, length, map, replicate, Bool, true, false, not, Option, Some, None, refl, sym, ap, ◌∙◌, subst, arith, append_assoc, append-nil, length-append}
+use Rattle.std.proofs.Common.{◌≡◌, ℕ, ◌+◌, ◌-◌, ◌<◌, ◌≤◌, inl, inr, List, [], ◌∷◌, ◌++◌, length, map, replicate, Bool, true, false, not, Option, Some, None, refl, sym, ap, ◌∙◌, subst, arith, append_assoc, append-nil, length-append}
 use Rattle.std.specs.Prelude.{◌||◌, if◌then◌else◌}
 use Rattle.std.specs.List.{list_any, position_or_len}
 use Rattle.std.proofs.lemmas.List.{map-append, length-replicate, replicate_more}
@@ -15,8 +15,9 @@ use Rattle.seq_objects.specs.declared.act.Act.TheVariants.{Work, Call}
 use Rattle.seq_objects.specs.declared.op.Op.{Op}
 use Rattle.seq_objects.specs.declared.op.Op.TheVariants.{CounterAdd, Push, Pop, TreeInsert, TreeRemove, TreeFind, TreeNext, PqInsert, PqTake}
 use Rattle.seq_objects.specs.Objects.{number_of}
-use Rattle.sp_order.proofs.ObjectLemmas.{most_used}
+use Rattle.sp_order.proofs.ObjectLemmas.{most_used, number_given}
 use Rattle.sp_order.specs.Objects.{number_in, AreUnnamed, with_number, numbered, with_numbers, AreByFirstUse, AreNumbered}
+use Rattle.std.proofs.lemmas.Bool.{cases_lt}
 
 -- zeros behind some numbers
 
@@ -29,11 +30,8 @@ zeros_more numbers count few =
     let next : count - length numbers + 1 ≡ count + 1 - length numbers = omega (arith, few) in
     append_assoc numbers (replicate (count - length numbers) 0) (0 ∷ []) ∙ ap (λ zeros. numbers ++ zeros) (replicate_more (count - length numbers) 0 ∙ ap (λ n. replicate n 0) next)
 
-below_or : (m n : ℕ) → (m < n) ⊎ (n ≤ m)
-below_or m n = grind arith
-
 pub at_end : (long at count : ℕ) → (long ≤ count → at ≤ count) → (count < long → at ≡ long) → count ≤ at → at - long ≡ count - long
-at_end long at count within stays over = elim (below_or count long) [
+at_end long at count within stays over = elim (cases_lt count long) [
   | inl less ↦ (let same = stays less in omega (arith, less, same))
   | inr more ↦ (let few = within more in omega (arith, few, over))
 ]
@@ -142,21 +140,10 @@ act_stays : (act : Act) → number_in act ≡ 0 → numbered act 0 ≡ act
 act_stays (Work steps) none = refl
 act_stays (Call op) none = ap (λ op. Call op) (call_stays op none)
 
-pub number_of_numbered : (op : Op) (number : ℕ) → number_of (with_number op number) ≡ number
-number_of_numbered (CounterAdd _ addend) number = refl
-number_of_numbered (Push _ item) number = refl
-number_of_numbered (Pop _) number = refl
-number_of_numbered (TreeInsert _ key) number = refl
-number_of_numbered (TreeRemove _ key) number = refl
-number_of_numbered (TreeFind _ key) number = refl
-number_of_numbered (TreeNext _ key) number = refl
-number_of_numbered (PqInsert _ item) number = refl
-number_of_numbered (PqTake _) number = refl
-
 zero_number : (act : Act) (number : ℕ) → number_in act ≡ 0 → number_in (numbered act number) ≤ 0 → numbered act number ≡ act
 zero_number (Work steps) number unnamed few = refl
 zero_number (Call op) number unnamed few =
-    let zero : number ≡ 0 = omega (arith, few, number_of_numbered op number) in
+    let zero : number ≡ 0 = omega (arith, few, number_given op number) in
     ap (λ n. Call (with_number op n)) zero ∙ act_stays (Call op) unnamed
 
 stays_from : (acts : List Act) (numbers : List ℕ) → AreUnnamed acts → AreByFirstUse 0 (map (λ act. number_in act) (with_numbers acts numbers)) 0 → with_numbers acts numbers ≡ acts

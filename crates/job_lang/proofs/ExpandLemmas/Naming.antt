@@ -15,7 +15,8 @@ use Rattle.job_syntax.proofs.ParserLemmas.ShownSteps.{scope_then}
 use Rattle.job_lang.specs.Counts.{count}
 use Rattle.job_lang.specs.Meaning.{each_copy, Known, leaf_known, source_of, known_by, known_behind, known_next, sources_in}
 use Rattle.job_lang.specs.Uses.{uses_name, uses_in}
-use Rattle.job_lang.proofs.ExpandLemmas.Scoped.{in_series}
+use Rattle.job_lang.proofs.ExpandLemmas.Scoped.{in_series, opened}
+use Rattle.job_lang.proofs.ExpandLemmas.Vanishing.{nothing_new}
 
 abbrev IsIn : Name → List Let → Type 0
 IsIn name lets = IsTrue (is_some (last_of name lets))
@@ -77,10 +78,6 @@ next_covers : (scope : Scope) (more : List Let) (new known : List Known) → Cov
 next_covers (job lets) more new known e f = covers_both new known lets more e f
 next_covers (inside outer kind lets) more new known e f = next_in (is_par kind) (lets_shown outer) lets more new known e f
 
-opened : (par : Bool) (lets : List Let) → lets ++ (if par then [] else []) ≡ lets
-opened true lets = append-nil lets
-opened false lets = append-nil lets
-
 -- behind one more item
 step_covers : (blocks : List OpenBlock) (before item : Items) (series : Bool) (new known : List Known) → in_series (scope_at blocks before) ≡ series → Covers new (lets_behind item) → Covers known (lets_shown (scope_at blocks before))
     → Covers (known_next series new known) (lets_shown (scope_at blocks (before then item)))
@@ -105,10 +102,6 @@ copies_used (suc n) f us h = map-append is_some (each_copy n f) (f n) ∙ ap (λ
 
 parts : (xs ys : List (Option ℕ)) (us ws : List Bool) → map is_some xs ≡ us → map is_some ys ≡ ws → map is_some (xs ++ ys) ≡ us ++ ws
 parts xs ys us ws e f = map-append is_some xs ys ∙ ap (λ n. n ++ map is_some ys) e ∙ ap (λ m. us ++ m) f
-
-nothing_new : (series : Bool) (known : List Known) → known_next series [] known ≡ known
-nothing_new true known = refl
-nothing_new false known = refl
 
 inner_covers : (blocks : List OpenBlock) (before : Items) (block : BlockKind) (known : List Known) → Covers known (lets_shown (scope_at blocks before)) → Covers known (lets_shown (scope_at (record { before = before; kind = block } ∷ blocks) nothing))
 inner_covers blocks before block known e name h =

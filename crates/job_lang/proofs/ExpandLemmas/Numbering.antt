@@ -11,15 +11,15 @@ use Rattle.seq_objects.specs.Batches.{ObjectKind, Counter, Stack, Tree, Queue, k
 use Rattle.seq_objects.specs.Objects.{number_of}
 use Rattle.sp_order.specs.Objects.{number_in, AreUnnamed, with_number, numbered, with_numbers, AreByFirstUse, name_of_number, AreOfOneKind, AreApart, AreNumbered}
 use Rattle.job_names.specs.declared.name.Name.{Name}
-use Rattle.job_names.specs.Names.{is_spelled, name_of, spelling}
+use Rattle.job_names.specs.Names.{name_of, spelling}
 use Rattle.job_names.specs.Names as names
 use Rattle.job_syntax.specs.Blocks.{word_number}
 use Rattle.job_syntax.specs.Grammar.{Items, nothing, leaf_then, block_then, seq_block, par_block, for_loop, pfor_loop, Leaf, with_argument, stack_pop, queue_take, bound, work, counter_add, stack_push, tree_insert, tree_remove, tree_find, tree_next, queue_insert}
 use Rattle.job_lang.specs.Meaning as meaning
-use Rattle.job_lang.specs.Meaning.{act_of, acts_in, each_copy, each_leaf, object_named, object_of, objects_in}
+use Rattle.job_lang.specs.Meaning.{act_of, acts_in, each_copy, object_named, object_of, objects_in}
 use Rattle.job_lang.specs.Objects.{NamedObject, same_object, with_object, named_behind, named_by, number_among, numbers_of, names_of, object_numbered, object_called}
 use Rattle.job_lang.specs.Code.Numbered.{numbers_behind, IsSpelledName, IsSpelled, AreSpelled}
-use Rattle.job_lang.proofs.ExpandLemmas.Kept.{number_of_numbered}
+use Rattle.sp_order.proofs.ObjectLemmas.{number_given}
 use Rattle.job_lang.proofs.ExpandLemmas.Places.{Has, at_place, one_place, with_old, with_new, place_below, place_none, named_is_there, same_numbers, each_named}
 
 -- the kind of an operation on the object with another number
@@ -135,7 +135,7 @@ module _ (number : Option NamedObject → ℕ) where
       record {
         object = object;
         named = refl;
-        number_is = ap number_of (sym same) ∙ number_of_numbered first (number object);
+        number_is = ap number_of (sym same) ∙ number_given first (number object);
         kind_is = λ x is. ap kind_of (sym same) ∙ kind_with first (number object) ∙ kind_named first object h x is;
       }
 
@@ -149,7 +149,7 @@ module _ (number : Option NamedObject → ℕ) where
 
   number_again : number None ≡ 0 → (act : Act) (object : Option NamedObject) → Names act object → number_in (numbered act (number object)) ≡ number object
   number_again none (Work steps) object h = sym (ap number h ∙ none)
-  number_again none (Call op) object h = number_of_numbered op (number object)
+  number_again none (Call op) object h = number_given op (number object)
 
   pub numbers_again : number None ≡ 0 → (acts : List Act) (objects : List (Option NamedObject)) → AreNaming acts objects → map (λ act. number_in act) (with_numbers acts (map number objects)) ≡ map number objects
   numbers_again none [] [] h = refl
@@ -247,14 +247,14 @@ module _ (acts : List Act) (leaves : List (Option NamedObject)) (naming : AreNam
 
   called_by : (act : Act) (object : Option NamedObject) → Names act object → ((x : NamedObject) → object ≡ Some x → Has all x × IsSpelledName x.name) → object_called (names_of leaves) (numbered act (number object)) ≡ object
   called_by (Work steps) object h each = sym h
-  called_by (Call op) None h each = ap (λ n. object_numbered (names_of leaves) (kind_of (with_number op 0)) n) (number_of_numbered op 0)
+  called_by (Call op) None h each = ap (λ n. object_numbered (names_of leaves) (kind_of (with_number op 0)) n) (number_given op 0)
   called_by (Call op) (Some x) h each =
       let place = position_or_len (same_object x) all in
       let is = each x refl in
       let next : place + 1 ≡ suc place = omega arith in
       let name : name_of (slice_index_or (names_of leaves) place []) ≡ x.name = ap name_of (at_place (λ object. spelling object.name) all x [] is.0) ∙ sym is.1.made in
       let kind : kind_of (with_number op (place + 1)) ≡ x.kind = kind_with op (place + 1) ∙ h.1 in
-      ap (λ n. object_numbered (names_of leaves) (kind_of (with_number op (place + 1))) n) (number_of_numbered op (place + 1) ∙ next)
+      ap (λ n. object_numbered (names_of leaves) (kind_of (with_number op (place + 1))) n) (number_given op (place + 1) ∙ next)
       ∙ (λ i. Some (record { kind = kind i; name = name i }))
 
   called_from : (some : List Act) (objects : List (Option NamedObject)) → AreNaming some objects → ((u : ℕ) (x : NamedObject) → slice_get objects u ≡ Some (Some x) → Has all x × IsSpelledName x.name)

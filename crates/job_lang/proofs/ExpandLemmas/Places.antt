@@ -7,6 +7,7 @@ use Rattle.job_names.specs.Names.{same_name}
 use Rattle.job_names.proofs.SameNames.{and_left, and_right, same_from, same_to}
 use Rattle.job_lang.specs.Objects.{NamedObject, same_object, with_object, named_behind, number_among}
 use Rattle.job_lang.specs.Code.Numbered.{numbers_behind}
+use Rattle.seq_objects.proofs.Apart.{same_self}
 
 kind_from : (a b : ObjectKind) → same_kind a b ≡ true → a ≡ b
 kind_from Counter Counter h = refl
@@ -26,12 +27,6 @@ kind_from Queue Counter h = cc
 kind_from Queue Stack h = cc
 kind_from Queue Tree h = cc
 
-kind_self : (a : ObjectKind) → same_kind a a ≡ true
-kind_self Counter = refl
-kind_self Stack = refl
-kind_self Tree = refl
-kind_self Queue = refl
-
 both_true : (a b : Bool) → a ≡ true → b ≡ true → (a && b) ≡ true
 both_true true b h k = k
 both_true false b h k = cc
@@ -43,7 +38,7 @@ object_from x y h =
     λ i. record { kind = kind i; name = name i }
 
 pub object_self : (x : NamedObject) → same_object x x ≡ true
-object_self x = both_true (same_kind x.kind x.kind) (same_name x.name x.name) (kind_self x.kind) (same_to x.name x.name refl)
+object_self x = both_true (same_kind x.kind x.kind) (same_name x.name x.name) (same_self x.kind) (same_to x.name x.name refl)
 
 -- the object is among these
 abbrev pub Has : List NamedObject → NamedObject → Type 0

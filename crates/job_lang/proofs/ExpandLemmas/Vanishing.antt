@@ -164,7 +164,7 @@ same_known (block_then kind body more) first =
     ∙ ap (λ k. k ++ (if is_loop kind then [] else known_behind first kept)) (same_known more next)
     ∙ ap (λ k. known_behind next more ++ (if is_loop kind then [] else k)) (same_known body first)
 
-nothing_new : (series : Bool) (known : List Known) → known_next series [] known ≡ known
+pub nothing_new : (series : Bool) (known : List Known) → known_next series [] known ≡ known
 nothing_new true known = refl
 nothing_new false known = refl
 

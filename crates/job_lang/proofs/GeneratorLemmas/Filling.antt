@@ -1,5 +1,5 @@
 -- The generated job fills its structures before it queries them.
-use Rattle.std.proofs.Common.{◌≡◌, ℕ, zero, suc, ◌+◌, ◌-◌, ◌<◌, ◌≤◌, ◌⊎◌, List, [], ◌∷◌, ◌++◌, length, map, take, drop, replicate, Option, Some, None, IsSome, inl, inr, refl, sym, ap, subst, ◌∙◌, arith, length-take, length-drop}
+use Rattle.std.proofs.Common.{◌≡◌, ℕ, zero, suc, ◌+◌, ◌-◌, ◌<◌, ◌≤◌, List, [], ◌∷◌, ◌++◌, length, map, take, drop, replicate, Option, Some, None, IsSome, inl, inr, refl, sym, ap, subst, ◌∙◌, arith, length-take, length-drop}
 use Rattle.std.specs.Prelude.{sum_by, slice_get, option_to_list}
 use Rattle.std.specs.List.{AllByRecursion}
 use Rattle.std.proofs.lemmas.List.Sums.{sum_by-take-drop}
@@ -15,19 +15,17 @@ use Rattle.job_lang.specs.Joins.{half, both, join_within, join_of}
 use Rattle.job_lang.specs.Generator.{growing_ops, finds_for, calls, pops_for, takes_for, part, all_ops, job_growing_by, generated}
 use Rattle.job_lang.proofs.GeneratorLemmas.Sources.{none_each}
 use Rattle.job_lang.proofs.ExpandLemmas.Leaves.{join_within_leaves}
-use Rattle.job_lang.proofs.EachOf.{each_append}
+use Rattle.seq_objects.proofs.Elements.{each_append}
 use Rattle.job_lang.proofs.GeneratorLemmas.Phases.{total_append}
 use Rattle.job_lang.proofs.GeneratorLemmas.Counts.{later_ops, later_parts, later_leaves, length_acts, each_leaf}
 use Rattle.job_lang.proofs.GeneratorLemmas.Draws.{Grows, all_grow, length_growing, first_ops}
 use Rattle.job_lang.proofs.GeneratorLemmas.Unnamed.{all_unnamed}
+use Rattle.std.proofs.lemmas.Bool.{cases_lt}
 
 -- the tree of a shape that is present, with its number of leaves
 there : (tree : Option Tree) (n : ℕ) → IsSome tree → leaf_count tree ≡ n → (t : Tree) × (tree ≡ Some t) × (leaves t ≡ n)
 there None n some count = cc
 there (Some t) n some count = (t, refl, count)
-
-below_or : (m n : ℕ) → (m < n) ⊎ (n ≤ m)
-below_or m n = grind arith
 
 -- The tree has `all` leaves, and each of the first `first` is before each of the others. So it is where shapes are
 -- joined in series.
@@ -38,7 +36,7 @@ pub record IsSeriesFrom (first : ℕ) (all : ℕ) (tree : Tree) : Type 0 where
 both_series : (first front back : ℕ) (left right : Tree) → first ≤ front → IsSeriesFrom first front left → leaves right ≡ back → IsSeriesFrom first (front + back) (seq left right)
 both_series first front back left right within series count = record {
   count = omega (arith, series.count, count);
-  before = λ u v low high less. elim (below_or v front) [
+  before = λ u v low high less. elim (cases_lt v front) [
     | inl near ↦ inl (series.before u v low high near)
     | inr far ↦ inr (inr ((omega arith, omega (arith, low, within, series.count)), (omega (arith, far, series.count), omega (arith, less, series.count, count))))
   ];

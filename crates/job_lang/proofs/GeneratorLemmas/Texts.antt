@@ -21,8 +21,9 @@ use Rattle.job_lang.proofs.GeneratorLemmas.Counts.{later_ops, answers, length_po
 use Rattle.job_lang.proofs.GeneratorLemmas.Draws.{Grows, all_grow, length_growing, first_growing}
 use Rattle.job_lang.proofs.GeneratorLemmas.Unnamed.{all_unnamed}
 use Rattle.sp_order.proofs.ObjectLemmas.{unnamed_are_named}
-use Rattle.job_lang.proofs.EachOf.{each_append, each_of_first, each_of_rest}
+use Rattle.job_lang.proofs.EachOf.{each_of_first, each_of_rest}
 use Rattle.job_lang.proofs.WriterLemmas.Jobs.{canonical_is_job, plain_is_short, small_from}
+use Rattle.seq_objects.proofs.Elements.{each_append}
 
 -- trees of at most this depth
 abbrev AreWithin : ℕ → List Tree → Type 0

@@ -7,7 +7,7 @@ use Rattle.seq_objects.specs.Objects.{number_of}
 use Rattle.sp_order.specs.Objects.{AreUnnamed}
 use Rattle.sp_order.specs.Totals.{pushes, queue_inserts, total}
 use Rattle.job_lang.specs.Generator.{calls, finds_for, pops_for, takes_for, all_ops}
-use Rattle.job_lang.proofs.EachOf.{each_append}
+use Rattle.seq_objects.proofs.Elements.{each_append}
 
 -- the operations are on objects with the number 0
 abbrev pub AreFirst : List Op → Type 0

@@ -17,7 +17,7 @@ use Rattle.job_lang.specs.Code.Ranges.{FitsArgument, FitsLeaf, Fits}
 use Rattle.job_lang.specs.Objects.{numbers_of}
 use Rattle.job_lang.specs.Meaning.{number_in, act_with, act_of, each_copy, acts_in, objects_in}
 use Rattle.job_lang.specs.Language.{IsJobOf}
-use Rattle.job_lang.proofs.EachOf.{each_append}
+use Rattle.seq_objects.proofs.Elements.{each_append}
 use Rattle.job_lang.proofs.LimitLemmas.Arguments.{numbers_fit}
 use Rattle.job_lang.proofs.LimitLemmas.GoodWords.{SaysWell, good_words, parts, block_parts}
 

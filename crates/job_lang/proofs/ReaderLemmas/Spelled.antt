@@ -13,7 +13,7 @@ use Rattle.job_syntax.specs.Grammar.{Items, nothing, leaf_then, block_then, seq_
 use Rattle.job_lang.specs.Objects.{NamedObject}
 use Rattle.job_lang.specs.Meaning.{each_copy, object_named, object_of, objects_in}
 use Rattle.job_lang.specs.Code.Numbered.{IsSpelled, AreSpelled}
-use Rattle.job_lang.proofs.EachOf.{each_append}
+use Rattle.seq_objects.proofs.Elements.{each_append}
 use Rattle.job_lang.proofs.LimitLemmas.GoodWords.{NamesWell, SaysWell, good_words, parts, block_parts}
 
 spelled_object : (kind : ObjectKind) (name : Option Name) → NamesWell name → IsSpelled (object_named kind name)

@@ -1,5 +1,5 @@
 -- The objects that the acts of a job call, as leaves that name them, get the numbers and the names of the job.
-use Rattle.std.proofs.Common.{◌≡◌, ℕ, zero, suc, ◌+◌, ◌-◌, ◌<◌, ◌⊎◌, inl, inr, List, [], ◌∷◌, ◌++◌, length, map, Bool, true, false, Some, None, refl, sym, ap, ◌∙◌, subst, arith, length-append}
+use Rattle.std.proofs.Common.{◌≡◌, ℕ, zero, suc, ◌+◌, ◌-◌, ◌<◌, ◌⊎◌, inl, inr, List, [], ◌∷◌, ◌++◌, length, map, true, false, Some, None, refl, sym, ap, ◌∙◌, subst, arith, length-append}
 use Rattle.std.specs.Prelude.{slice_get, slice_index_or}
 use Rattle.std.specs.List.{list_any, position_or_len}
 use Rattle.seq_objects.specs.declared.act.Act.{Act}
@@ -12,8 +12,10 @@ use Rattle.sp_order.specs.Objects.{number_in, numbered, with_number, AreByFirstU
 use Rattle.job_names.specs.Names.{name_of, spelling}
 use Rattle.job_lang.specs.Objects.{NamedObject, same_object, with_object, named_behind, numbers_of, names_of, object_numbered, object_called}
 use Rattle.job_lang.specs.Code.Numbered.{numbers_behind}
-use Rattle.job_lang.proofs.Spellings.{spelling_back, same_front}
 use Rattle.job_lang.proofs.ExpandLemmas.Places.{object_from, object_self, with_old, with_new, place_is, place_none, none_passes, one_passes, same_numbers}
+use Rattle.std.proofs.lemmas.Bool.{false_from_ne_true}
+use Rattle.job_names.proofs.Spellings.{spelling_back, one_spelling}
+use Rattle.std.proofs.lemmas.Option.{slice_get_within}
 
 -- an act gets its number back
 
@@ -32,10 +34,6 @@ pub numbered_back : (act : Act) → numbered (numbered act 0) (number_in act) �
 numbered_back (Work steps) = refl
 numbered_back (Call op) = ap (λ op. Call op) (call_back op)
 
-false_unless : (b : Bool) → (b ≡ true → ⊥) → b ≡ false
-false_unless true never = absurd (never refl)
-false_unless false never = refl
-
 last_or : {X : Type 0} (xs : List X) (x y : X) (p : ℕ) → slice_get (xs ++ x ∷ []) p ≡ Some y → (slice_get xs p ≡ Some y) ⊎ ((p ≡ length xs) × (y ≡ x))
 last_or [] x y zero e = inr (refl, cc)
 last_or [] x y (suc p) e = cc
@@ -46,11 +44,6 @@ below_get : {X : Type 0} (xs : List X) (p : ℕ) → p < length xs → (x : X) �
 below_get [] p h = absurd (omega (arith, h))
 below_get (x ∷ xs) zero h = (x, refl)
 below_get (x ∷ xs) (suc p) h = below_get xs p (omega (arith, h))
-
-get_below : {X : Type 0} (xs : List X) (p : ℕ) (x : X) → slice_get xs p ≡ Some x → p < length xs
-get_below [] p x e = cc
-get_below (first ∷ xs) zero x e = omega arith
-get_below (first ∷ xs) (suc p) x e = let h = get_below xs p x e in omega (arith, h)
 
 module _ (all : List Act) (given : List (List ℕ)) (named : AreNamed all given) where
   -- an act of the job
@@ -77,11 +70,11 @@ module _ (all : List Act) (given : List (List ℕ)) (named : AreNamed all given)
   -- an object of a call is not known at another place
   other_place : (op : Op) (place q : ℕ) (other : NamedObject) → IsAct (Call op) → number_of op ≡ place + 1 → (q ≡ place → ⊥) → IsKnown q other → same_object (object_at (kind_of op) place) other ≡ false
   other_place op place q other is e differ known =
-      false_unless (same_object (object_at (kind_of op) place) other)
+      false_from_ne_true (same_object (object_at (kind_of op) place) other)
       (λ t.
       let same = object_from (object_at (kind_of op) place) other t ∙ known.object_is in
       let kind : kind_of op ≡ kind_of known.op = ap (λ (o : NamedObject). o.kind) same in
-      let name : slice_index_or given place [] ≡ slice_index_or given q [] = same_front (slice_index_or given place []) (slice_index_or given q []) (ap (λ (o : NamedObject). o.name) same) in
+      let name : slice_index_or given place [] ≡ slice_index_or given q [] = one_spelling (slice_index_or given place []) (slice_index_or given q []) (ap (λ (o : NamedObject). o.name) same) in
       let n = known.number_is in
       named.apart is.0 known.call.0 op known.op is.1 known.call.1 (omega (arith, e)) (omega (arith, n)) kind
       (λ equal. differ (omega (arith, e, n, equal)))
@@ -107,7 +100,7 @@ module _ (all : List Act) (given : List (List ℕ)) (named : AreNamed all given)
   new_place : (known : List NamedObject) (op : Op) (place : ℕ) → AreKnown known → IsAct (Call op) → number_of op ≡ place + 1 → place ≡ length known → list_any (same_object (object_at (kind_of op) place)) known ≡ false
   new_place known op place are is e long =
       none_passes (same_object (object_at (kind_of op) place)) known
-      (λ q other f. let below = get_below known q other f in other_place op place q other is e (λ q_is. omega (arith, below, q_is, long)) (are q other f))
+      (λ q other f. let below = slice_get_within known q other f in other_place op place q other is e (λ q_is. omega (arith, below, q_is, long)) (are q other f))
 
   known_more : (known : List NamedObject) (op : Op) (place : ℕ) → AreKnown known → IsAct (Call op) → number_of op ≡ place + 1 → place ≡ length known → AreKnown (known ++ object_at (kind_of op) place ∷ [])
   known_more known op place are is e long p object f =

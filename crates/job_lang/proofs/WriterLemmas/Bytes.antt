@@ -27,6 +27,7 @@ use Rattle.job_lang.proofs.EachOf.{each_of_first, each_of_rest}
 use Rattle.job_lang.proofs.WriterLemmas.Decimals.{each_byte}
 use Rattle.job_lang.proofs.WriterLemmas.Kinds.{IsNamedAt, each_spelled}
 use Rattle.job_lang.proofs.WriterLemmas.Words.{IsSaid, AreSaid}
+use Rattle.job_lang.proofs.WriterLemmas.Names.{decimal_few}
 
 -- a byte that is allowed and begins no comment
 abbrev pub is_plain : ℕ → Bool
@@ -163,22 +164,19 @@ short_call : (op : Op) → length (call_words [] op) ≤ 14
 short_call op =
     omega (arith, length-append (kind_words (kind_of op)) (name_words [] (number_of op) ++ verb_words op), length-append (name_words [] (number_of op)) (verb_words op), short_verb op, short_name_words (number_of op))
 
-short_decimal : (n : ℕ) → n < 2 ^ 32 → length (decimal n) ≤ 10
-short_decimal n small = length-decimal-le 10 n (omega arith) (omega (arith, small)) (omega (arith, small))
-
 short_argument : (op : Op) → IsSmall (op_number op) → length (argument_words op) ≤ 10
-short_argument (CounterAdd number addend) small = short_decimal addend small
-short_argument (Push number item) small = short_decimal item small
+short_argument (CounterAdd number addend) small = decimal_few addend small
+short_argument (Push number item) small = decimal_few item small
 short_argument (Pop number) small = omega arith
-short_argument (TreeInsert number key) small = short_decimal key small
-short_argument (TreeRemove number key) small = short_decimal key small
-short_argument (TreeFind number key) small = short_decimal key small
-short_argument (TreeNext number key) small = short_decimal key small
-short_argument (PqInsert number item) small = short_decimal item small
+short_argument (TreeInsert number key) small = decimal_few key small
+short_argument (TreeRemove number key) small = decimal_few key small
+short_argument (TreeFind number key) small = decimal_few key small
+short_argument (TreeNext number key) small = decimal_few key small
+short_argument (PqInsert number item) small = decimal_few item small
 short_argument (PqTake number) small = omega arith
 
 short_source : (takes : Bool) (source : ℕ) → source < 2 ^ 32 → length (if takes then name_text source else []) ≤ 11
-short_source true source small = let h = short_decimal source small in omega (arith, h)
+short_source true source small = let h = decimal_few source small in omega (arith, h)
 short_source false source small = omega arith
 
 short_act : (act : Act) → IsSmall (act_number act) → length (act_text [] act None) ≤ 24

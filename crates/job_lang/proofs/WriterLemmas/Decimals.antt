@@ -10,6 +10,7 @@ use Rattle.std.proofs.lemmas.Grind.{common_steps}
 use Rattle.job_syntax.specs.declared.lexer.word.Word.TheVariants.{Number}
 use Rattle.job_syntax.specs.Text.{tokens_from, is_in_chunk, begins_in_chunk, before_tokens}
 use Rattle.job_syntax.specs.Words.{is_digit, are_digits, digits_from, begins_well, number_of, argument_word, word_of}
+use Rattle.job_syntax.proofs.LexerLemmas.Chunks.{tokens_first}
 
 -- each byte of a decimal passes a test that each digit passes
 pub each_byte : (test : ℕ → Bool) → ((digit : ℕ) → digit < 10 → test (48 + digit) ≡ true) → (n : ℕ) → n < 2 ^ 32 → list_all test (decimal n) ≡ true
@@ -84,17 +85,14 @@ decimal_word n small =
 
 -- bytes of a chunk are one token, where the text after them does not continue the chunk
 
-chunk_step : (line byte : ℕ) (text : List ℕ) → is_in_chunk byte ≡ true → tokens_from line (byte ∷ text) ≡ before_tokens byte line (begins_in_chunk text) (tokens_from line text)
-chunk_step line byte text inside = grind (arith, common_steps)
-
 pub chunk_token : (line : ℕ) (bytes rest : List ℕ) → 0 < length bytes → list_all is_in_chunk bytes ≡ true → begins_in_chunk rest ≡ false → tokens_from line (bytes ++ rest) ≡ record { text = bytes; line = line } ∷ tokens_from line rest
 chunk_token line [] rest some inside ends = absurd (omega (arith, some))
 chunk_token line (byte ∷ []) rest some inside ends =
-    chunk_step line byte rest (and_parts (is_in_chunk byte) true inside).0 ∙ ap (λ joins. before_tokens byte line joins (tokens_from line rest)) ends
+    tokens_first line byte rest (and_parts (is_in_chunk byte) true inside).0 ∙ ap (λ joins. before_tokens byte line joins (tokens_from line rest)) ends
 chunk_token line (byte ∷ next ∷ bytes) rest some inside ends =
     let first = and_parts (is_in_chunk byte) (list_all is_in_chunk (next ∷ bytes)) inside in
     let second = and_parts (is_in_chunk next) (list_all is_in_chunk bytes) first.1 in
-    chunk_step line byte (next ∷ bytes ++ rest) first.0
+    tokens_first line byte (next ∷ bytes ++ rest) first.0
     ∙ ap (λ joins. before_tokens byte line joins (tokens_from line (next ∷ bytes ++ rest))) second.0
     ∙ ap (λ behind. before_tokens byte line true behind) (chunk_token line (next ∷ bytes) rest (omega arith) first.1 ends)
 

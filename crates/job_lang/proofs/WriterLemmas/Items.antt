@@ -27,9 +27,10 @@ use Rattle.job_names.specs.declared.name.Name.{Name}
 use Rattle.job_names.specs.Names.{name_of}
 use Rattle.sp_order.specs.Sources.{has_argument}
 use Rattle.job_lang.specs.declared.writer.written.WrittenLeaf.{WrittenLeaf}
-use Rattle.job_lang.proofs.EachOf.{each_append, each_of_first, each_of_rest}
+use Rattle.job_lang.proofs.EachOf.{each_of_first, each_of_rest}
 use Rattle.job_lang.proofs.WriterLemmas.Names.{leaf_name}
 use Rattle.job_lang.proofs.WriterLemmas.Again.{numbered_back, back_again}
+use Rattle.seq_objects.proofs.Elements.{each_append}
 
 -- the name of an object with this number, if it has one
 abbrev pub name_at : List (List ℕ) → ℕ → Option Name

@@ -34,13 +34,12 @@ use Rattle.job_syntax.specs.Faults.{has_good_numbers}
 use Rattle.job_lang.specs.Limits.{first_line, depends_on_copy}
 use Rattle.job_lang.specs.Language.{IsJobOf}
 use Rattle.job_lang.specs.Canonical.{is_source, written_from, written_leaves, tree_text, shape_text, canonical_text}
-use Rattle.job_lang.proofs.EachOf.{each_before_map}
+use Rattle.seq_objects.proofs.Elements.{each_unmapped}
 use Rattle.job_lang.proofs.WriterLemmas.Items.{AreGood, AreWell, acts_of, sources_of, tree_items, job_again, tree_count, tree_nesting, tree_range_flags, tree_fits, tree_good}
 use Rattle.job_lang.proofs.WriterLemmas.Bytes.{ArePlain, bare_same, none_forbidden, plain_append, plain_tree, short_tree, IsFew, IsUnnamed, plain_short_tree}
 use Rattle.job_lang.proofs.WriterLemmas.Words.{AreSaid, said_from, tree_said}
 use Rattle.job_lang.proofs.WriterLemmas.Kinds.{IsNamedAt}
-use Rattle.job_lang.proofs.ExpandLemmas.Kept.{number_of_numbered}
-use Rattle.sp_order.proofs.ObjectLemmas.{most_used}
+use Rattle.sp_order.proofs.ObjectLemmas.{most_used, number_given}
 use Rattle.job_lang.proofs.ExpandLemmas.Numbering.{kind_with}
 use Rattle.job_lang.proofs.WriterLemmas.Sources.{acts_from, sources_from, length_from, found_source, source_found, at_from, well_from, Sourced, Has, sourced, tree_sources, no_source}
 use Rattle.job_lang.proofs.WriterLemmas.Shown.{tree_shown, one_shown}
@@ -62,7 +61,7 @@ tree_is_job names tree written blanks same few deep good well named sources show
       items = items;
       read = record {
         derives = record { writes = sym words; fits = fits };
-        numbers = each_before_map (λ word. IsTrue (has_good_numbers word)) (λ (token : WordOnLine). token.word) (words_on_lines text) (subst AreGood (sym words) (tree_good names tree written nothing tt));
+        numbers = each_unmapped (λ (token : WordOnLine). token.word) (λ word. IsTrue (has_good_numbers word)) (words_on_lines text) (subst AreGood (sym words) (tree_good names tree written nothing tt));
         nests = omega (arith, tree_nesting names tree written nothing, deep);
         known = tokens_known (words_on_lines text) items (sym words) fits shown;
       };
@@ -257,7 +256,7 @@ pub named_words : (names : List (List ℕ)) (op : Op) → 0 < number_of op → i
 named_words names op some spelled small =
     let text = name_of_number names (number_of op) in
     let is = verb_with op 1 in
-    let one = number_of_numbered op 1 in
+    let one = number_given op 1 in
     let here : number_of op ≡ suc (number_of op - 1) = omega (arith, some) in
     subst (λ words. IsJobOf words (record { shape = Some leaf; acts = Call (with_number op 1) ∷ []; sources = None ∷ []; names = text ∷ [] }))
     (sym (words_by_name names (text ∷ []) op (with_number op 1) (sym (kind_with op 1)) (ap (name_words names) here ∙ sym (ap (name_words (text ∷ [])) one)) is.0 is.1.0))

@@ -9,16 +9,14 @@ use Rattle.sp_order.specs.Precedence.{Tree}
 use Rattle.sp_order.specs.Sources.{AreSources}
 use Rattle.job_lang.specs.declared.writer.written.WrittenLeaf.{WrittenLeaf}
 use Rattle.job_lang.specs.Canonical.{is_leaf, is_source, written_from}
-
-or_assoc : (a b c : Bool) → ((a || b) || c) ≡ (a || (b || c))
-or_assoc true b c = refl
-or_assoc false b c = refl
+use Rattle.job_syntax.proofs.ParserLemmas.OpenStacks.{or_assoc}
+use Rattle.std.proofs.lemmas.Option.{slice_get_within}
 
 or_false : (a : Bool) → (a || false) ≡ a
 or_false true = refl
 or_false false = refl
 
-or_true : (a : Bool) → (a || true) ≡ true
+pub or_true : (a : Bool) → (a || true) ≡ true
 or_true true = refl
 or_true false = refl
 
@@ -60,11 +58,6 @@ set_length (x ∷ xs) (suc i) = ap suc (set_length xs i)
 pub no_mark : (xs : List Bool) (leaf : ℕ) (was : Bool) → slice_get xs leaf ≡ Some was → slice_get xs leaf ≡ Some (was || false)
 no_mark xs leaf was e = e ∙ ap (λ b. Some b) (sym (or_false was))
 
-pub get_below : {X : Type 0} (xs : List X) (i : ℕ) (x : X) → slice_get xs i ≡ Some x → i < length xs
-get_below [] i x e = cc
-get_below (first ∷ xs) zero x e = omega arith
-get_below (first ∷ xs) (suc i) x e = let h = get_below xs i x e in omega (arith, h)
-
 pub none_marked : (n k : ℕ) → k < n → slice_get (replicate n false) k ≡ Some false
 none_marked zero k h = absurd (omega (arith, h))
 none_marked (suc n) zero h = refl
@@ -73,7 +66,7 @@ none_marked (suc n) (suc k) h = none_marked n k (omega (arith, h))
 -- a job's source is one of its leaves
 pub source_below : (shape : Option Tree) (acts : List Act) (sources : List (Option ℕ)) (leaf : ℕ) (r : Option ℕ) → AreSources shape acts sources → slice_get sources leaf ≡ Some r → IfSome r (λ source. source < length acts)
 source_below shape acts sources leaf None are e = tt
-source_below shape acts sources leaf (Some source) are e = let calls = (are.each leaf source e).calls in get_below acts source (Call calls.0) calls.1
+source_below shape acts sources leaf (Some source) are e = let calls = (are.each leaf source e).calls in slice_get_within acts source (Call calls.0) calls.1
 
 -- the leaves before a place, and one more
 written_more_at : (all : List (Option ℕ)) (number : ℕ) (acts : List Act) (sources : List (Option ℕ)) (i at : ℕ) (act : Act) (source : Option ℕ) → at ≡ number + i → slice_get acts i ≡ Some act → slice_get sources i ≡ Some source

@@ -12,7 +12,7 @@ use Rattle.job_syntax.specs.declared.lexer.word.Word.TheVariants.{Named}
 use Rattle.job_syntax.specs.Text.{tokens_from, is_in_chunk, begins_in_chunk}
 use Rattle.job_syntax.specs.Words.{digits_from, quoted_or, argument_word, word_of}
 use Rattle.job_lang.specs.Canonical.{name_text}
-use Rattle.job_lang.proofs.Spellings.{same_front}
+use Rattle.job_names.proofs.Spellings.{one_spelling}
 use Rattle.job_lang.proofs.WriterLemmas.Decimals.{each_byte, decimal_in_chunk, chunk_token, decimal_says}
 
 abbrev pub leaf_name : ℕ → Name
@@ -21,7 +21,7 @@ leaf_name number = name_of (name_text number)
 digit_in_name : (digit : ℕ) → digit < 10 → is_in_name (48 + digit) ≡ true
 digit_in_name digit low = grind (arith, common_steps)
 
-decimal_few : (n : ℕ) → n < 2 ^ 32 → length (decimal n) ≤ 10
+pub decimal_few : (n : ℕ) → n < 2 ^ 32 → length (decimal n) ≤ 10
 decimal_few n small = length-decimal-le 10 n (omega arith) (omega (arith, small)) (omega (arith, small))
 
 spelled : (n : ℕ) → n < 2 ^ 32 → is_spelled (118 ∷ decimal n) ≡ true
@@ -43,5 +43,5 @@ name_token line n rest small ends = chunk_token line (name_text n) rest (omega a
 
 pub one_leaf : (a b : ℕ) → a < 2 ^ 32 → b < 2 ^ 32 → leaf_name a ≡ leaf_name b → a ≡ b
 one_leaf a b small small' e =
-    let same : decimal a ≡ decimal b = ap (drop 1) (same_front (name_text a) (name_text b) e) in
+    let same : decimal a ≡ decimal b = ap (drop 1) (one_spelling (name_text a) (name_text b) e) in
     sym (decimal_says a small) ∙ ap (digits_from 0) same ∙ decimal_says b small'

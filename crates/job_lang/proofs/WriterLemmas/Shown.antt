@@ -1,6 +1,6 @@
 -- Each name in the canonical text has its let shown.
 use Rattle.std.proofs.Common.{◌≡◌, ℕ, ◌+◌, ◌<◌, ◌≤◌, ◌⊎◌, inl, inr, Bool, true, false, List, [], ◌∷◌, length, take, drop, Option, Some, None, is_some, refl, sym, ap, ◌∙◌, arith}
-use Rattle.std.specs.Prelude.{if◌then◌else◌, IsTrue}
+use Rattle.std.specs.Prelude.{IsTrue}
 use Rattle.job_names.specs.declared.name.Name.{Name}
 use Rattle.job_names.specs.declared.scopes.Let.{Let}
 use Rattle.job_names.specs.Scopes.{Scope, last_of, lets_shown}
@@ -17,7 +17,8 @@ use Rattle.job_lang.specs.declared.writer.written.WrittenLeaf.{WrittenLeaf}
 use Rattle.job_lang.specs.Canonical.{is_source}
 use Rattle.job_lang.proofs.WriterLemmas.Items.{name_at, call_leaf, said, leaf_of_act, given_name, leaf_of_written, tree_items, left_length, right_length}
 use Rattle.job_lang.proofs.WriterLemmas.Names.{leaf_name}
-use Rattle.job_lang.proofs.WriterLemmas.Sources.{AreAt, at_take, at_drop, either, Sourced, IsNamedIn, leaf_range}
+use Rattle.job_lang.proofs.WriterLemmas.Sources.{AreAt, at_take, at_drop, Sourced, IsNamedIn, leaf_range}
+use Rattle.std.proofs.lemmas.Bool.{cases_lt}
 
 module _ (names : List (List ℕ)) where
   -- items one after another
@@ -55,7 +56,7 @@ module _ (names : List (List ℕ)) where
       let wl = take (leaves left) written in
       let wr = drop (leaves left) written in
       in_first (leaf_name u) (lets_behind (tree_items names left wl (tree_items names right wr nothing))) (lets_behind more)
-      (elim (either u (first + leaves left)) [
+      (elim (cases_lt u (first + leaves left)) [
         | inl l ↦ shown_behind all left first wl (tree_items names right wr nothing) u (left_length left right written same) (at_take all first (leaves left) written at) low l named
         | inr r ↦ shown_later left wl (tree_items names right wr nothing) (leaf_name u) (left_length left right written same)
             (shown_behind all right (first + leaves left) wr nothing u (right_length left right written same) (at_drop all first (leaves left) (first + leaves left) written refl at) r (omega (arith, high)) named)
@@ -64,7 +65,7 @@ module _ (names : List (List ℕ)) where
       let wl = take (leaves left) written in
       let wr = drop (leaves left) written in
       in_first (leaf_name u) (lets_behind (tree_items names left wl (tree_items names right wr nothing))) (lets_behind more)
-      (elim (either u (first + leaves left)) [
+      (elim (cases_lt u (first + leaves left)) [
         | inl l ↦ shown_behind all left first wl (tree_items names right wr nothing) u (left_length left right written same) (at_take all first (leaves left) written at) low l named
         | inr r ↦ shown_later left wl (tree_items names right wr nothing) (leaf_name u) (left_length left right written same)
             (shown_behind all right (first + leaves left) wr nothing u (right_length left right written same) (at_drop all first (leaves left) (first + leaves left) written refl at) r (omega (arith, high)) named)

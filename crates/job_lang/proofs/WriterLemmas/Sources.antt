@@ -21,11 +21,14 @@ use Rattle.job_lang.specs.declared.writer.written.WrittenLeaf.{WrittenLeaf}
 use Rattle.job_lang.specs.Counts.{count}
 use Rattle.job_lang.specs.Meaning.{Known, leaf_known, source_of, known_by, known_behind, known_next, sources_in}
 use Rattle.job_lang.specs.Canonical.{is_leaf, is_source, written_from}
-use Rattle.job_lang.proofs.EachOf.{each_append, each_of_first, each_of_rest}
+use Rattle.job_lang.proofs.EachOf.{each_of_first, each_of_rest}
 use Rattle.job_lang.proofs.ExpandLemmas.Joined.{before_is_smaller}
 use Rattle.job_lang.proofs.ExpandLemmas.Sourcing.{HasLeaf}
 use Rattle.job_lang.proofs.WriterLemmas.Items.{name_at, call_leaf, said, leaf_of_act, given_name, leaf_of_written, tree_items, tree_count, left_length, right_length, Stands, IsWell, AreWell, acts_of, sources_of}
 use Rattle.job_lang.proofs.WriterLemmas.Names.{leaf_name, one_leaf}
+use Rattle.seq_objects.proofs.Elements.{each_append}
+use Rattle.std.proofs.lemmas.Bool.{cases_lt}
+use Rattle.job_lang.proofs.WriterLemmas.Marks.{or_true}
 
 -- the leaves of a job as they are written
 
@@ -51,10 +54,6 @@ or_from : (a b : Bool) → (a || b) ≡ true → (a ≡ true) ⊎ (b ≡ true)
 or_from true b h = inl refl
 or_from false b h = inr h
 
-or_right : (a : Bool) → (a || true) ≡ true
-or_right true = refl
-or_right false = refl
-
 leaf_is : (source : Option ℕ) (number : ℕ) → is_leaf number source ≡ true → source ≡ Some number
 leaf_is None number h = cc
 leaf_is (Some source) number h = ap (λ n. Some n) (eqb-true source number h)
@@ -72,7 +71,7 @@ source_found [] v number h = cc
 source_found (source ∷ all) zero number h =
     let same : source ≡ Some number = cc in
     ap (λ s. is_leaf number s || is_source all number) same ∙ ap (λ b. b || is_source all number) (eq-eqb number number refl)
-source_found (source ∷ all) (suc v) number h = ap (λ b. is_leaf number source || b) (source_found all v number h) ∙ or_right (is_leaf number source)
+source_found (source ∷ all) (suc v) number h = ap (λ b. is_leaf number source || b) (source_found all v number h) ∙ or_true (is_leaf number source)
 
 -- a leaf with the number that it should have, and a name where it is a source
 pub record IsAt (all : List (Option ℕ)) (number : ℕ) (written : WrittenLeaf) : Type 0 where
@@ -230,11 +229,6 @@ has_second : (xs ys : List Known) (u : ℕ) → HasLeaf ys u → HasLeaf (xs ++ 
 has_second [] ys u h = h
 has_second (x ∷ xs) ys u h = inr (has_second xs ys u h)
 
-pub either : (v m : ℕ) → (v < m) ⊎ (m ≤ v)
-either v zero = inr (omega arith)
-either zero (suc m) = inl (omega arith)
-either (suc v) (suc m) = elim (either v m) [ inl h ↦ inl (omega (arith, h)) | inr h ↦ inr (omega (arith, h)) ]
-
 pub leaf_range : (tree : Tree) (first u : ℕ) → IsLeafOf tree first u → (first ≤ u) × (u < first + leaves tree)
 leaf_range tree first u h = h
 
@@ -335,7 +329,7 @@ module _ (names : List (List ℕ)) where
       let wr = drop (leaves left) written in
       let body = tree_items names left wl (tree_items names right wr nothing) in
       has_second (known_behind (first + 1 * count body) more) (known_behind first body) u
-      (elim (either u (first + leaves left)) [
+      (elim (cases_lt u (first + leaves left)) [
         | inl l ↦ behind_holds all left first wl (tree_items names right wr nothing) u (left_length left right written same) (at_take all first (leaves left) written at) low l named
         | inr r ↦ behind_more left first wl (tree_items names right wr nothing) u (left_length left right written same)
             (behind_holds all right (first + leaves left) wr nothing u (right_length left right written same) (at_drop all first (leaves left) (first + leaves left) written refl at) r (omega (arith, high)) named)
@@ -345,7 +339,7 @@ module _ (names : List (List ℕ)) where
       let wr = drop (leaves left) written in
       let body = tree_items names left wl (tree_items names right wr nothing) in
       has_second (known_behind (first + 1 * count body) more) (known_behind first body) u
-      (elim (either u (first + leaves left)) [
+      (elim (cases_lt u (first + leaves left)) [
         | inl l ↦ behind_holds all left first wl (tree_items names right wr nothing) u (left_length left right written same) (at_take all first (leaves left) written at) low l named
         | inr r ↦ behind_more left first wl (tree_items names right wr nothing) u (left_length left right written same)
             (behind_holds all right (first + leaves left) wr nothing u (right_length left right written same) (at_drop all first (leaves left) (first + leaves left) written refl at) r (omega (arith, high)) named)

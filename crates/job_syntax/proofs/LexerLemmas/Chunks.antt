@@ -37,7 +37,7 @@ begins-bare byte text false false is_feed is_hash = refl
 bare_first : (byte : ℕ) (text : List ℕ) → is_in_chunk byte ≡ true → bare false (byte ∷ text) ≡ byte ∷ bare false text
 bare_first byte text chunk = let is = plain byte chunk in rw (is.feed, is.hash) refl
 
-tokens_first : (line byte : ℕ) (text : List ℕ) → is_in_chunk byte ≡ true → tokens_from line (byte ∷ text) ≡ before_tokens byte line (begins_in_chunk text) (tokens_from line text)
+pub tokens_first : (line byte : ℕ) (text : List ℕ) → is_in_chunk byte ≡ true → tokens_from line (byte ∷ text) ≡ before_tokens byte line (begins_in_chunk text) (tokens_from line text)
 tokens_first line byte text chunk = let is = plain byte chunk in rw (is.blank, is.feed, is.brace) refl
 
 run_on : (byte : ℕ) (text : List ℕ) → is_in_chunk byte ≡ true → run (byte ∷ text) ≡ suc (run text)

@@ -23,7 +23,7 @@ length-blocks_on : (under : List machine.OpenBlock) (blocks : List OpenBlock) �
 length-blocks_on under [] = omega arith
 length-blocks_on under (first ∷ blocks) = let h = length-blocks_on (block_view first ∷ under) blocks in omega (arith, h)
 
-or_assoc : (a b c : Bool) → ((a || b) || c) ≡ (a || (b || c))
+pub or_assoc : (a b c : Bool) → ((a || b) || c) ≡ (a || (b || c))
 or_assoc true b c = refl
 or_assoc false b c = refl
 

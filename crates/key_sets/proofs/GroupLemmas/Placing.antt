@@ -8,7 +8,7 @@ use Rattle.key_sets.specs.Keys.{StrictlyAscends, has}
 use Rattle.key_sets.specs.Groups.{AreGroups, AreInRanges, starts_of, is_in, group_of, group_size, group_count}
 use Rattle.key_sets.proofs.KeyLemmas.Ascending.{all_map}
 use Rattle.key_sets.proofs.KeyLemmas.Beside.{has_low, has_high}
-use Rattle.key_sets.proofs.KeyLemmas.Sides.{less_or_not}
+use Rattle.std.proofs.lemmas.Bool.{cases_lt}
 use Rattle.key_sets.proofs.GroupLemmas.Cutting.{apart, take_drop, all_take, next_start}
 
 -- the last group has all keys that remain
@@ -44,7 +44,7 @@ pub few_groups : (keys : List ℕ) (groups : List (List ℕ)) → AreGroups (gro
 few_groups keys [] are = omega arith
 few_groups keys (group ∷ groups) are =
     let b = bounds (group_size (length keys)) keys (group ∷ groups) (omega (arith, are.0)) are in
-    elim (less_or_not 16 (length (group ∷ groups))) [
+    elim (cases_lt 16 (length (group ∷ groups))) [
       | inl more ↦ let many = mul-le-mul_right {m = 17} {n = length (group ∷ groups)} (group_size (length keys)) (omega (arith, more)) in absurd (omega (arith, many, b.1))
       | inr few ↦ few
     ]
@@ -59,7 +59,7 @@ key_in_group size keys (group ∷ next ∷ groups) key some up are there =
     let begins = next_start size keys next some are.2.0 are.2.1 in
     let cut = apart size b keys up begins.1 in
     let whole : has key (take size keys ++ drop size keys) ≡ true = ap (has key) (take_drop size keys) ∙ there in
-    elim (less_or_not key b) [
+    elim (cases_lt key b) [
       | inl less ↦
           let test : nat_lt key b ≡ true = grind (arith, nat_tests) in
           let own : has key (take size keys) ≡ true = sym (has_low key b (take size keys) (drop size keys) less cut.up) ∙ whole in

@@ -1,7 +1,6 @@
 -- An ascending set is the keys below a key, followed by the others.
-use Rattle.std.proofs.Common.{◌≡◌, ℕ, ◌<◌, ◌≤◌, ◌⊎◌, inl, inr, Bool, true, false, not, cond, nat_lt, List, [], ◌∷◌, ◌++◌, refl, ap, arith}
+use Rattle.std.proofs.Common.{◌≡◌, ℕ, ◌<◌, ◌≤◌, Bool, true, false, not, cond, nat_lt, List, [], ◌∷◌, ◌++◌, refl, ap, arith}
 use Rattle.std.specs.List.{AllByRecursion}
-use Rattle.std.proofs.lemmas.Bool.{cases_order}
 use Rattle.std.proofs.lemmas.Bool.Decides.{nat_tests}
 use Rattle.key_sets.specs.Keys.{StrictlyAscends, AllBelow}
 use Rattle.key_sets.specs.Splits.{IsSplit, below, from}
@@ -9,13 +8,6 @@ use Rattle.key_sets.proofs.Filters.{all_filter, all_passed}
 use Rattle.key_sets.proofs.KeyLemmas.Ascending.{all_map}
 
 -- comparisons, and what they decide
-pub less_or_not : (m n : ℕ) → (m < n) ⊎ (n ≤ m)
-less_or_not m n = elim (cases_order m n) [
-  | inl same ↦ inr (omega arith)
-  | inr (inl less) ↦ inl less
-  | inr (inr more) ↦ inr (omega arith)
-]
-
 pub is_less : (m n : ℕ) → nat_lt m n ≡ true → m < n
 is_less m n is = grind (arith, nat_tests)
 

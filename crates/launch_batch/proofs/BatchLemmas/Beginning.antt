@@ -2,7 +2,7 @@
 use Rattle.std.proofs.Common.{ℕ, ◌≡◌, ◌==◌, ◌≤◌, ◌<◌, ◌+◌, ◌*◌, ◌^◌, List, [], length, map, None, refl, ap, sym, subst, ◌∙◌, arith}
 use Rattle.launch_batch.proofs.Words.{AllByRecursion, Call, number_of, AreDistinct, ObjectKind, Counter, Stack, Tree, Queue, AreInBatchOrder, AreOneBatch, kind_of, same_kind, calls_of, calls_at, of_counter, Entry, flat, MayServe, ArePermutations, IsNarrow, Members, Objects, opening, alone, served_book, BatchContext, store_of_kind, MatchesHistory}
 use Rattle.seq_objects.specs.Batches.{AreOf}
-use Rattle.seq_objects.proofs.Filters.{each_filter, are_of}
+use Rattle.seq_objects.proofs.Filters.{are_of}
 use Rattle.object_rows.specs.declared.row.Row.{Row}
 use Rattle.object_rows.specs.Contents.{structure_at, content_or_opening, store_of}
 use Rattle.object_rows.specs.Contexts.{IsRowContextOf}
@@ -11,10 +11,11 @@ use Rattle.batched_counter.specs.Calls.{MayServe as MayAdd}
 use Rattle.launch_batch.proofs.ListLemmas.Same.{each_same, distinct_same, length_same}
 use Rattle.launch_batch.proofs.MergeLemmas.Dealing.{few_pass, all_by_kind}
 use Rattle.launch_batch.proofs.BatchLemmas.Serial.{total_small}
+use Rattle.key_sets.proofs.Filters.{all_filter}
 
 -- the calls of a kind and a number are of the kind
 pub own_at : (kind : ObjectKind) (number : ℕ) (calls : List Call) → AreOf kind (calls_at number (calls_of kind calls))
-own_at kind number calls = each_filter (λ (call : Call). kind_of call.op ≡ kind) (λ (call : Call). number_of call.op == number) (calls_of kind calls) (are_of kind calls)
+own_at kind number calls = all_filter (λ (call : Call). kind_of call.op ≡ kind) (λ (call : Call). number_of call.op == number) (calls_of kind calls) (are_of kind calls)
 
 pub some_same : (calls ordered : List Call) → ArePermutations calls ordered → 0 < length calls → 0 < length ordered
 some_same calls ordered same some = let n = length_same calls ordered same in omega (arith, n, some)
@@ -37,7 +38,7 @@ may_add book calls ordered number counter may same narrow room = record {
   fits =
       let own = calls_of Counter ordered in
       let small = total_small (calls_at number own)
-      (each_filter IsNarrow (λ (call : Call). number_of call.op == number) own (each_filter IsNarrow (λ (call : Call). same_kind Counter (kind_of call.op)) ordered narrow)) in
+      (all_filter IsNarrow (λ (call : Call). number_of call.op == number) own (all_filter IsNarrow (λ (call : Call). same_kind Counter (kind_of call.op)) ordered narrow)) in
       let few = few_pass (λ (call : Call). number_of call.op == number) own in
       let fewer = few_pass (λ (call : Call). same_kind Counter (kind_of call.op)) ordered in
       let many = length_same calls ordered same in

@@ -9,7 +9,8 @@ use Rattle.launch_batch.specs.Code.Committing.{HasServedOwn, HaveServed}
 use Rattle.launch_batch.proofs.MergeLemmas.ByKind.{kind_content}
 use Rattle.launch_batch.proofs.MergeLemmas.Merging.{merged_serial}
 use Rattle.launch_batch.proofs.BatchLemmas.Serial.{legal_is, served_is, counters_most}
-use Rattle.launch_batch.proofs.BatchLemmas.Histories.{flat_append, served_append, history_made, length_book, length_calls}
+use Rattle.launch_batch.proofs.BatchLemmas.Histories.{history_made, length_book, length_calls}
+use Rattle.batch_history.proofs.BookLemmas.Books.{flat_append, served_append}
 
 -- the structures of one kind contain what the history with the batch gives
 kind_kept : {T R : Type 0} (content : T → Objects) (kind : ObjectKind) (row : Row T R) (book : List (List Entry)) (ordered : List Call) (replies : List Reply) (entries : List Entry)

@@ -1,28 +1,17 @@
 -- A history with one more batch is a history.
-use Rattle.std.proofs.Common.{ℕ, ◌≡◌, ◌≢◌, ◌<◌, ◌+◌, ◌^◌, List, [], ◌∷◌, ◌++◌, length, map, arith, refl, sym, ap, subst, ◌∙◌, append-nil, append_assoc, length-append}
+use Rattle.std.proofs.Common.{ℕ, ◌≡◌, ◌≢◌, ◌<◌, ◌+◌, ◌^◌, List, [], ◌∷◌, ◌++◌, length, map, arith, sym, ap, subst, ◌∙◌, length-append}
 use Rattle.std.proofs.lemmas.List.{length-map}
 use Rattle.std.proofs.lemmas.Simd.{map-map}
-use Rattle.launch_batch.proofs.Words.{AllByRecursion, Call, Store, opening_store, store_after, AllPairsByRecursion, AreDistinct, Entry, flat, IsLegalFrom, IsBatch, IsHistory, served, call_in, calls_in, MayServe, IsServiceOf, IsNarrow}
+use Rattle.launch_batch.proofs.Words.{AllByRecursion, Call, Store, opening_store, store_after, AreDistinct, Entry, flat, IsLegalFrom, IsBatch, IsHistory, served, call_in, calls_in, MayServe, IsServiceOf, IsNarrow}
 use Rattle.seq_objects.specs.BatchOrder.{ComesFirst}
-use Rattle.seq_objects.proofs.Elements.{each_append}
-use Rattle.launch_batch.proofs.ListLemmas.Elements.{each_mapped, each_unmapped, distinct_append, apart_turned, map_append}
+use Rattle.seq_objects.proofs.Elements.{each_append, each_unmapped, distinct_append, pairs_unmapped}
+use Rattle.launch_batch.proofs.ListLemmas.Elements.{each_mapped, apart_turned, map_append}
 use Rattle.launch_batch.proofs.ListLemmas.Same.{each_same, distinct_same, length_same}
-
-pub flat_append : (book : List (List Entry)) (batch : List Entry) → flat (book ++ batch ∷ []) ≡ flat book ++ batch
-flat_append [] batch = append-nil batch
-flat_append (first ∷ book) batch = ap (λ l. first ++ l) (flat_append book batch) ∙ sym (append_assoc first (flat book) batch)
-
-pub served_append : (store : Store) (xs ys : List Entry) → served store (xs ++ ys) ≡ served (served store xs) ys
-served_append store [] ys = refl
-served_append store (e ∷ xs) ys = served_append (store_after store e.op) xs ys
+use Rattle.batch_history.proofs.BookLemmas.Books.{flat_append}
 
 legal_append : (store : Store) (xs ys : List Entry) → IsLegalFrom store xs → IsLegalFrom (served store xs) ys → IsLegalFrom store (xs ++ ys)
 legal_append store [] ys h g = g
 legal_append store (e ∷ xs) ys h g = (h.0, legal_append (store_after store e.op) xs ys h.1 g)
-
-pairs_unmapped : {A B : Type 0} (f : A → B) (R : B → B → Type 0) (xs : List A) → AllPairsByRecursion R (map f xs) → AllPairsByRecursion (λ a b. R (f a) (f b)) xs
-pairs_unmapped f R [] h = tt
-pairs_unmapped f R (x ∷ xs) h = (each_unmapped f (R (f x)) xs h.0, pairs_unmapped f R xs h.1)
 
 pub length_calls : (batch : List Entry) → length (calls_in batch) ≡ length batch
 length_calls batch = length-map batch call_in

@@ -3,7 +3,7 @@ use Rattle.std.proofs.Common.{ℕ, ◌≡◌, ◌==◌, ◌+◌, ◌*◌, ◌<�
 use Rattle.launch_batch.proofs.Words.{AllByRecursion, Call, Objects, after, argument_of, number_of, Store, store_after, store_reply, store_after_all, store_replies, calls_at, after_all, Entry, IsLegalFrom, served, calls_in, replies_in, IsNarrow}
 use Rattle.seq_objects.specs.declared.op.Op.{Op}
 use Rattle.seq_objects.specs.declared.op.Op.TheVariants.{CounterAdd}
-use Rattle.seq_objects.proofs.Filters.{each_filter}
+use Rattle.key_sets.proofs.Filters.{all_filter}
 use Rattle.seq_objects.proofs.Numbers.{own_content}
 use Rattle.launch_batch.proofs.MergeLemmas.Dealing.{few_pass}
 use Rattle.batched_counter.specs.Sums.{total}
@@ -35,7 +35,7 @@ counter_most o (call ∷ calls) narrow =
 pub counters_most : (store : Store) (calls : List Call) (number : ℕ) → AllByRecursion IsNarrow calls → (store_after_all store calls number).counter ≤ (store number).counter + length calls * 2 ^ 32
 counters_most store calls number narrow =
     let after : (store_after_all store calls number).counter ≡ (after_all (store number) (calls_at number calls)).counter = ap (λ (o : Objects). o.counter) (own_content number store calls) in
-    let most = counter_most (store number) (calls_at number calls) (each_filter IsNarrow (λ (call : Call). number_of call.op == number) calls narrow) in
+    let most = counter_most (store number) (calls_at number calls) (all_filter IsNarrow (λ (call : Call). number_of call.op == number) calls narrow) in
     let few = few_pass (λ (call : Call). number_of call.op == number) calls in
     omega (arith, after, most, few)
 

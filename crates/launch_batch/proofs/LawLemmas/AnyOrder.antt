@@ -2,8 +2,7 @@
 use Rattle.std.proofs.Common.{ℕ, ◌≡◌, ◌<◌, inl, inr, List, [], ◌∷◌, map, refl, sym, ap, subst, ◌∙◌, arith}
 use Rattle.launch_batch.proofs.Words.{AllByRecursion, AllMeet, PieceIn, PieceOut, ArePermutations, Run, Meets, place_of, IsOutAt, ArePutBack}
 use Rattle.key_sets.specs.Keys.{StrictlyAscends}
-use Rattle.seq_objects.proofs.Elements.{each_so}
-use Rattle.launch_batch.proofs.ListLemmas.Elements.{each_unmapped}
+use Rattle.seq_objects.proofs.Elements.{each_so, each_unmapped}
 use Rattle.launch_batch.proofs.ListLemmas.Same.{each_same}
 use Rattle.launch_batch.proofs.ListLemmas.Among.{Among, all_among, each_among, among_same}
 

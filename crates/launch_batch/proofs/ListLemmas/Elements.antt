@@ -1,22 +1,12 @@
 -- Properties of the elements of lists, and of their images under a map.
 use Rattle.std.proofs.Common.{ℕ, ◌≡◌, ◌≢◌, List, [], ◌∷◌, ◌++◌, map, refl, sym, ap}
-use Rattle.launch_batch.proofs.Words.{AllByRecursion, AreDistinct}
-use Rattle.seq_objects.proofs.Elements.{each_append, each_so}
+use Rattle.launch_batch.proofs.Words.{AllByRecursion}
+use Rattle.seq_objects.proofs.Elements.{each_so}
 
 -- from the elements to their images
 pub each_mapped : {A B : Type 0} (f : A → B) (P : A → Type 0) (Q : B → Type 0) → ((a : A) → P a → Q (f a)) → (xs : List A) → AllByRecursion P xs → AllByRecursion Q (map f xs)
 each_mapped f P Q g [] h = tt
 each_mapped f P Q g (x ∷ xs) h = (g x h.0, each_mapped f P Q g xs h.1)
-
--- from the images to the elements
-pub each_unmapped : {A B : Type 0} (f : A → B) (Q : B → Type 0) (xs : List A) → AllByRecursion Q (map f xs) → AllByRecursion (λ a. Q (f a)) xs
-each_unmapped f Q [] h = tt
-each_unmapped f Q (x ∷ xs) h = (h.0, each_unmapped f Q xs h.1)
-
--- two lists of distinct numbers without a common one are distinct together
-pub distinct_append : (xs ys : List ℕ) → AreDistinct xs → AreDistinct ys → AllByRecursion (λ x. AllByRecursion (λ y. x ≢ y) ys) xs → AreDistinct (xs ++ ys)
-distinct_append [] ys h g apart = g
-distinct_append (x ∷ xs) ys h g apart = (each_append (λ y. x ≢ y) xs ys h.0 apart.0, distinct_append xs ys h.1 g apart.1)
 
 -- having no number in common is symmetric
 pub apart_turned : (xs ys : List ℕ) → AllByRecursion (λ x. AllByRecursion (λ y. x ≢ y) ys) xs → AllByRecursion (λ y. AllByRecursion (λ x. y ≢ x) xs) ys

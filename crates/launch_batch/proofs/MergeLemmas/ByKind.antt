@@ -1,12 +1,8 @@
 -- The objects of one kind, of all numbers, serve their own calls.
-use Rattle.std.proofs.Common.{ℕ, ◌≡◌, ◌==◌, Bool, true, false, cond, List, [], ◌∷◌, length, refl, ap, ◌∙◌, arith}
+use Rattle.std.proofs.Common.{ℕ, ◌≡◌, ◌==◌, Bool, true, false, cond, List, [], ◌∷◌, refl, ap, ◌∙◌, arith}
 use Rattle.std.proofs.lemmas.Bool.Decides.{nat_tests}
 use Rattle.launch_batch.proofs.Words.{Call, Reply, Objects, after, reply_to, number_of, Store, store_after, store_reply, store_after_all, store_replies, ObjectKind, kind_of, same_kind, calls_of, replies_of, alone, store_of_kind}
 use Rattle.seq_objects.proofs.Apart.{own_replies, own_content}
-
-pub length_told : (store : Store) (calls : List Call) → length (store_replies store calls) ≡ length calls
-length_told store [] = refl
-length_told store (call ∷ calls) = omega (arith, length_told (store_after store call.op) calls)
 
 module _ (kind : ObjectKind) where
   -- a single call: of this kind here, of another one in the next lemma

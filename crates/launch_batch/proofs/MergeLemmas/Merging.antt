@@ -4,8 +4,9 @@ use Rattle.launch_batch.proofs.Words.{Call, Reply, Store, store_replies, ObjectK
 use Rattle.seq_objects.specs.declared.reply.Reply.TheVariants.{Empty}
 use Rattle.seq_objects.proofs.Filters.{same_is}
 use Rattle.seq_objects.proofs.Apart.{same_replies}
-use Rattle.launch_batch.proofs.MergeLemmas.ByKind.{kind_replies, length_told}
+use Rattle.launch_batch.proofs.MergeLemmas.ByKind.{kind_replies}
 use Rattle.launch_batch.specs.declared.merge.ReplyCursors.{ReplyCursors}
+use Rattle.object_rows.proofs.Closing.{length_told}
 
 pub length_merged : (calls : List Call) (remaining : ReplyCursors) → length (merged_replies calls remaining) ≡ length calls
 length_merged [] remaining = refl

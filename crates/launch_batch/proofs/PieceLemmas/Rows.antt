@@ -6,8 +6,7 @@ use Rattle.launch_batch.proofs.Words.{AllByRecursion, Members, CounterPiece, Sta
 use Rattle.launch_batch.specs.declared.piece.PieceIn.TheVariants as piece
 use Rattle.launch_batch.specs.Places.{IsInOwnRow}
 use Rattle.launch_batch.specs.Code.Rows.{four_rows, AreInRows}
-use Rattle.seq_objects.proofs.Elements.{each_append}
-use Rattle.launch_batch.proofs.ListLemmas.Elements.{each_unmapped}
+use Rattle.seq_objects.proofs.Elements.{each_append, each_unmapped}
 use Rattle.launch_batch.proofs.PieceLemmas.Placing.{each_placed, places_placed, all_own, none_own}
 use Rattle.launch_batch.proofs.PieceLemmas.Ascending.{IsRow, row_of_four}
 

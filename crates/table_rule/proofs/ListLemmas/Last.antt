@@ -3,20 +3,14 @@ use Rattle.std.proofs.Common.{ℕ, ◌≡◌, ◌≢◌, ◌==◌, if◌then◌e
 use Rattle.std.specs.List.{AllByRecursion}
 use Rattle.std.proofs.lemmas.List.{map-append}
 use Rattle.std.proofs.lemmas.Bool.{cases_eq}
-use Rattle.std.proofs.lemmas.Bool.Decides.{nat_tests}
 use Rattle.seq_objects.specs.declared.call.Call.{Call}
 use Rattle.seq_objects.specs.Pairs.{AreDistinct}
 use Rattle.core_model.specs.State.{put}
 use Rattle.table_rule.specs.declared.slot.OpRecord.{OpRecord}
 use Rattle.table_rule.specs.Passes.{record_of}
 use Rattle.table_rule.specs.Shows.{took_in, record_in, among}
-use Rattle.table_rule.proofs.ListLemmas.Lists.{each_so, each_append}
-
-pub if_no : {A : Type 0} (a b : ℕ) (p q : A) → a ≢ b → (if a == b then p else q) ≡ q
-if_no a b p q e = grind (arith, nat_tests)
-
-pub if_yes : {A : Type 0} (a b : ℕ) (p q : A) → a ≡ b → (if a == b then p else q) ≡ p
-if_yes a b p q e = grind (arith, nat_tests)
+use Rattle.seq_objects.proofs.Elements.{each_append, each_so}
+use Rattle.core_model.proofs.BookLemmas.OwnEntries.{if_other, if_same}
 
 -- two tests, in the one order as in the other
 swapped : (a b c : Bool) → (if a then true else (if b then true else c)) ≡ (if b then true else (if a then true else c))
@@ -36,15 +30,15 @@ among_put (y ∷ xs) u x =
 pub record_last : (taken : List Call) (call : Call) (x : ℕ) (c : OpRecord) → record_in (taken ++ call ∷ []) x ≡ Some c
     → (record_in taken x ≡ Some c) ⊎ ((x ≡ call.worker) × (record_of call ≡ c))
 record_last [] call x c e = elim (cases_eq x call.worker) [
-  | inl is ↦ let f : Some (record_of call) ≡ Some c = sym (if_yes x call.worker (Some (record_of call)) (record_in [] x) is) ∙ e in inr (is, (cc))
-  | inr ne ↦ inl (sym (if_no x call.worker (Some (record_of call)) (record_in [] x) ne) ∙ e)
+  | inl is ↦ let f : Some (record_of call) ≡ Some c = sym (if_same x call.worker (Some (record_of call)) (record_in [] x) is) ∙ e in inr (is, (cc))
+  | inr ne ↦ inl (sym (if_other x call.worker (Some (record_of call)) (record_in [] x) ne) ∙ e)
 ]
 record_last (t ∷ taken) call x c e = elim (cases_eq x t.worker) [
-  | inl is ↦ inl (if_yes x t.worker (Some (record_of t)) (record_in taken x) is ∙ (sym (if_yes x t.worker (Some (record_of t)) (record_in (taken ++ call ∷ []) x) is) ∙ e))
+  | inl is ↦ inl (if_same x t.worker (Some (record_of t)) (record_in taken x) is ∙ (sym (if_same x t.worker (Some (record_of t)) (record_in (taken ++ call ∷ []) x) is) ∙ e))
   | inr ne ↦ ⊎_elim
-      (λ f. inl (if_no x t.worker (Some (record_of t)) (record_in taken x) ne ∙ f))
+      (λ f. inl (if_other x t.worker (Some (record_of t)) (record_in taken x) ne ∙ f))
       (λ f. inr f)
-      (record_last taken call x c (sym (if_no x t.worker (Some (record_of t)) (record_in (taken ++ call ∷ []) x) ne) ∙ e))
+      (record_last taken call x c (sym (if_other x t.worker (Some (record_of t)) (record_in (taken ++ call ∷ []) x) ne) ∙ e))
 ]
 
 pub distinct_last : (ns : List ℕ) (n : ℕ) → AreDistinct ns → AllByRecursion (λ m. m ≢ n) ns → AreDistinct (ns ++ n ∷ [])

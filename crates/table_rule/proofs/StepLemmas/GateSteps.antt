@@ -11,7 +11,6 @@ use Rattle.atomic_table.specs.Table.{step, Act, keeps, takes, gives, chain, Vali
 use Rattle.atomic_table.proofs.Lists.{exchanged, set_here, set_else}
 use Rattle.batch_history.specs.declared.batch.Entry.{Entry}
 use Rattle.std.specs.List.{AllByRecursion}
-use Rattle.std.proofs.Common.{◌&&◌, not}
 use Rattle.seq_objects.specs.declared.op.Op.{Op}
 use Rattle.seq_objects.specs.Pairs.{AreDistinct}
 use Rattle.batch_history.specs.Book.{flat}
@@ -48,14 +47,16 @@ use Rattle.table_rule.specs.Shows.{reserved, TableState, SlotHome, IsPrefix, IsR
 use Rattle.table_rule.specs.Passes as W
 use Rattle.table_rule.specs.Views as V
 use Rattle.table_rule.specs.Plays as G
-use Rattle.table_rule.proofs.TableLemmas.Words.{put_at, put_other, set_status, set_flag, flag_same}
-use Rattle.table_rule.proofs.TableLemmas.Facts.{is_free, is_trapped, is_executing, not_in_book, is_call}
-use Rattle.table_rule.proofs.TableLemmas.Moved.{mine_of, moved, looked, found, missed, true_false, record_took, free_untaken}
+use Rattle.table_rule.proofs.TableLemmas.Words.{set_status, set_flag, flag_same}
+use Rattle.table_rule.proofs.TableLemmas.Facts.{is_free, is_trapped, is_executing, not_in_book}
+use Rattle.table_rule.proofs.TableLemmas.Moved.{mine_of, moved, looked, found, missed, true_false, record_took, free_untaken, held_yes}
 use Rattle.core_model.specs.Entries.{StandsAt}
 use Rattle.table_rule.proofs.ListLemmas.Last.{took_put, among_put, record_last, workers_last}
 use Rattle.table_rule.proofs.StepLemmas.TakeOk.{pending_is_new, taken_is_new}
 use Rattle.table_rule.proofs.StepLemmas.ToldOps.{told_place, told_op}
 use Rattle.table_rule.proofs.TableLemmas.Through.{SameTold, told_again, told_kept, reseen, through, hold_others, hold_won, hold_gone, hold_same, slots_record}
+use Rattle.core_model.proofs.BookLemmas.Operations.{is_call}
+use Rattle.core_model.proofs.InvariantLemmas.Puts.{put_at, put_other}
 
 -- what the number found says of the flag, or of a status
 free_flag : (h : Maybe Hold) → flag_code h ≡ 0 → h ≡ None
@@ -177,11 +178,8 @@ each_taken : (P : ℕ → Type 0) (taken : List Call) → ((x : ℕ) → took_in
 each_taken P [] h = tt
 each_taken P (t ∷ taken) h = (h t.worker (took_first t taken), each_taken P taken (λ x e. h x (took_later t taken x e)))
 
-yes_and_not : (a b : Bool) → a ≡ true → b ≡ false → (a && not b) ≡ true
-yes_and_not a b e f = grind arith
-
 taken_is : (s : State) (k x : ℕ) (h : HoldView) → s.hold ≡ Some (hold_of k h) → took_in h.taken x ≡ true → among h.answered x ≡ false → is_taken_by s.hold x ≡ true
-taken_is s k x h held took yet = rw held (yes_and_not (took_in h.taken x) (among h.answered x) took yet)
+taken_is s k x h held took yet = rw held (held_yes (took_in h.taken x) (among h.answered x) took yet)
 
 -- the leave with this receipt is some leave
 left_with : (job : CoreJob) (room : ℕ) {t : TableState} (s : State) (k word : ℕ) (r : Receipt) → ShowsOne job room (Happens job s k (Leave r)) t → ShowsOne job room (MakesLeave job k s word) t

@@ -37,9 +37,10 @@ use Rattle.table_rule.specs.Shows.{TableState, Shows, AgreesWithView}
 use Rattle.table_rule.specs.Plays.{claimed, drawn, opened, kept, finished, arrived}
 use Rattle.table_rule.specs.Passes.{with_task, claiming, refusing, opening, keeping}
 use Rattle.table_rule.specs.Views.{with_step, with_found}
-use Rattle.table_rule.proofs.TableLemmas.Words.{put_at, put_other, set_node, set_mark, set_value, set_tick}
+use Rattle.table_rule.proofs.TableLemmas.Words.{set_node, set_mark, set_value, set_tick}
 use Rattle.table_rule.proofs.TableLemmas.Facts.{is_free}
 use Rattle.table_rule.proofs.TableLemmas.Moved.{mine_of, job_step, looked, found, missed, found_none, found_one, SameBut}
+use Rattle.core_model.proofs.InvariantLemmas.Puts.{put_at, put_other}
 
 ready_word : (p : Progress) → progress_code p ≡ 1 → p ≡ Ready
 ready_word Waiting e = absurd (omega (arith, e))

@@ -1,7 +1,6 @@
 -- What the next act of a task says of the task, by the kind of act.
-use Rattle.std.proofs.Common.{ℕ, ◌≡◌, ◌≢◌, ◌<◌, true, Option as Maybe, None, Some, refl, sym, ap, ◌∙◌, subst, inl, inr, arith}
+use Rattle.std.proofs.Common.{ℕ, ◌≡◌, ◌<◌, true, Option as Maybe, None, Some, refl, sym, ap, ◌∙◌, subst, inl, inr}
 use Rattle.std.proofs.lemmas.Bool.{cases_eq}
-use Rattle.std.proofs.lemmas.Bool.Decides.{nat_tests}
 use Rattle.seq_objects.specs.Spin.{spin_of}
 use Rattle.seq_objects.specs.Objects.{value_of}
 use Rattle.seq_objects.specs.declared.act.Act.{Act}
@@ -26,6 +25,7 @@ use Rattle.table_rule.specs.Laws.{Laws}
 use Rattle.table_rule.specs.DueActs.{op_told, IsPostDue, IsKeepDue}
 use Rattle.table_rule.specs.Tasks.{IsPar, TaskHere, progress_after, job_seen, IsNext}
 use Rattle.table_rule.proofs.StepLemmas.Sides.{block_in, side_below}
+use Rattle.core_model.proofs.InvariantLemmas.Finish.{idle_after, whole_after}
 
 -- In every state where a free worker has the task, the event happens, and `changed` is the state after it.
 abbrev pub HappensFor : CoreJob → Task → Event → (State → ℕ → State) → Type 0
@@ -204,17 +204,10 @@ act_is job v one two known due is = let there = subst (λ (j : CoreJob). next_ac
 pub next_seen : (job : CoreJob) (v : View) (next : Next) → job_seen v ≡ job → next_act job v.own.task v.own.call ≡ Some next → IsNext v next
 next_seen job v next known is = subst (λ (j : CoreJob). next_act j v.own.task v.own.call ≡ Some next) (sym known) is
 
--- the task after a finish
-after_root : (n : ℕ) → n ≡ 0 → task_after n ≡ Idle
-after_root n is = grind (arith, nat_tests)
-
-after_other : (n : ℕ) → n ≢ 0 → task_after n ≡ Whole n
-after_other n other = grind (arith, nat_tests)
-
 pub after_here : (job : CoreJob) (n : ℕ) → n < job.plan.count → TaskHere job (task_after n)
 after_here job n below = elim (cases_eq n 0) [
-  | inl is ↦ subst (TaskHere job) (sym (after_root n is)) tt
-  | inr other ↦ subst (TaskHere job) (sym (after_other n other)) (below, other)
+  | inl is ↦ subst (TaskHere job) (sym (idle_after n is)) tt
+  | inr other ↦ subst (TaskHere job) (sym (whole_after n other)) (below, other)
 ]
 
 -- the task after the second arrival

@@ -18,7 +18,6 @@ use Rattle.core_model.specs.declared.status.Status.TheVariants.{Free, Pending, E
 use Rattle.core_model.specs.Invariant.{Parts}
 use Rattle.core_model.specs.Waits.{task_place}
 use Rattle.table_rule.proofs.ListLemmas.CallCounts.{room_few}
-use Rattle.table_rule.proofs.ListLemmas.Lists.{each_so, each_mapped}
 use Rattle.core_model.specs.Measure.{call_count}
 use Rattle.core_model.specs.Entries.{entries_of}
 use Rattle.table_rule.specs.declared.slot.OpRecord.{OpRecord}
@@ -35,9 +34,11 @@ use Rattle.table_rule.specs.Passes as W
 use Rattle.table_rule.specs.Views as V
 use Rattle.table_rule.specs.Plays as G
 use Rattle.table_rule.proofs.TableLemmas.Words.{set_count, flag_same}
-use Rattle.table_rule.proofs.TableLemmas.Facts.{is_trapped, is_out, is_executing, is_call}
+use Rattle.table_rule.proofs.TableLemmas.Facts.{is_trapped, is_out, is_executing}
 use Rattle.table_rule.proofs.TableLemmas.Moved.{mine_of, moved, looked, record_took}
 use Rattle.table_rule.proofs.TableLemmas.Through.{SameTold, told_again, told_kept, hold_others}
+use Rattle.seq_objects.proofs.Elements.{each_so, each_mapped}
+use Rattle.core_model.proofs.BookLemmas.Operations.{is_call}
 
 answers_late : (h : Bool) (b : Bool) → (h ≡ true → b ≡ true) → b ≡ false → h ≡ false
 answers_late h b f e = grind arith

@@ -28,10 +28,11 @@ use Rattle.table_rule.specs.Views.{newcomer}
 use Rattle.table_rule.specs.Plays.{enrolled}
 use Rattle.table_rule.specs.Steps.{ShowsOne, StepRefines, SplitStutters, Stutters}
 use Rattle.table_rule.specs.Views.{enrolling, pass_of, rest_of}
-use Rattle.table_rule.proofs.TableLemmas.Words.{put_at, put_other, set_node}
+use Rattle.table_rule.proofs.TableLemmas.Words.{set_node}
 use Rattle.table_rule.proofs.TableLemmas.Facts.{is_free}
 use Rattle.table_rule.proofs.TableLemmas.Moved.{mine_of, at_below, seat_stays}
 use Rattle.table_rule.proofs.TableLemmas.Through.{SameTold, told_again, reseat}
+use Rattle.core_model.proofs.InvariantLemmas.Puts.{put_at, put_other}
 
 at_snoc_at : {A : Type 0} (l : List A) (a b : A) (j : ℕ) → get_elem? (l ++ a ∷ []) j ≡ some b → (get_elem? l j ≡ some b) ⊎ ((a ≡ b) × (j ≡ length l))
 at_snoc_at [] a b zero e = inr (some-injective a b e, refl)

@@ -12,8 +12,9 @@ use Rattle.table_rule.specs.declared.slot.OpRecord.{OpRecord}
 use Rattle.table_rule.specs.declared.view.HoldView.{HoldView}
 use Rattle.table_rule.specs.Laws.{Laws}
 use Rattle.table_rule.specs.Shows.{IsRecordOf, record_in, hold_of}
-use Rattle.table_rule.proofs.TableLemmas.Facts.{is_out, same_worker, not_in_book, is_call}
+use Rattle.table_rule.proofs.TableLemmas.Facts.{is_out, same_worker, not_in_book}
 use Rattle.table_rule.proofs.TableLemmas.Moved.{record_took}
+use Rattle.core_model.proofs.BookLemmas.Operations.{is_call}
 
 out_got : (c : CallState) (r : Receipt) → c ≡ Out → c ≡ Got r → ⊥
 out_got c r e f = absurd (cc)

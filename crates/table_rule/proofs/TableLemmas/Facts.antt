@@ -1,25 +1,19 @@
 -- Consequences of the invariant for a worker and its call, in the form in which the steps use them.
-use Rattle.std.proofs.Common.{ℕ, ◌≡◌, ◌≢◌, Bool, true, false, Option as Maybe, None, Some, List, refl, sym, ap, ◌∙◌, inl, inr}
+use Rattle.std.proofs.Common.{ℕ, ◌≡◌, ◌≢◌, Bool, true, false, Option as Maybe, None, Some, refl, sym, ap, ◌∙◌, inl, inr}
 use Rattle.sp_order.specs.declared.node.Kind.TheVariants.{LeafNode}
 use Rattle.core_model.specs.declared.task.Task.TheVariants.{Started, Kept, Ended}
 use Rattle.core_model.specs.declared.progress.Progress.TheVariants.{Taken, Ran}
 use Rattle.core_model.specs.declared.status.Receipt.{Receipt}
-use Rattle.core_model.specs.declared.status.Status.{Status}
-use Rattle.core_model.specs.declared.status.Status.TheVariants.{Free, Pending, Executing, Served}
+use Rattle.core_model.specs.declared.status.Status.TheVariants.{Free, Executing, Served}
 use Rattle.core_model.specs.declared.status.CallState.TheVariants.{Out, Got}
 use Rattle.core_model.specs.State.{CoreJob, State}
-use Rattle.core_model.specs.Operations.{op_in, op_from, op_of, IsCall, Place, place_of}
-use Rattle.core_model.specs.Words.{Entry, Op}
+use Rattle.core_model.specs.Operations.{IsCall, Place, place_of}
 use Rattle.core_model.specs.Tasks.{names}
 use Rattle.core_model.specs.Invariant.Statuses.{is_taken_by}
 use Rattle.core_model.specs.Invariant.Hold.{is_published}
 use Rattle.core_model.specs.Invariant.{Parts}
-
-is_free_if : (st : Status) → (st ≢ Free → ⊥) → st ≡ Free
-is_free_if Free h = refl
-is_free_if Pending h = absurd (h (λ e. cc))
-is_free_if Executing h = absurd (h (λ e. cc))
-is_free_if (Served r) h = absurd (h (λ e. cc))
+use Rattle.core_model.proofs.ReportLemmas.RootDone.{is_free as is_free_if}
+use Rattle.std.proofs.lemmas.Bool.{false_from_ne_true}
 
 -- a worker whose call is not out is free, and one whose call is out is not
 pub is_free : (job : CoreJob) (s : State) (k : ℕ) → Parts job s → s.call k ≢ Out → s.status k ≡ Free
@@ -32,13 +26,9 @@ is_trapped job s k parts out = (parts.statuses.out k).0 out
 pub is_out : (job : CoreJob) (s : State) (k : ℕ) → Parts job s → s.status k ≢ Free → s.call k ≡ Out
 is_out job s k parts trapped = (parts.statuses.out k).1 trapped
 
-untrue : (b : Bool) → (b ≡ true → ⊥) → b ≡ false
-untrue true h = absurd (h refl)
-untrue false h = refl
-
 -- a worker is executing exactly if the hold has taken it and not answered
 pub not_taken : (job : CoreJob) (s : State) (k : ℕ) → Parts job s → s.status k ≢ Executing → is_taken_by s.hold k ≡ false
-not_taken job s k parts ne = untrue (is_taken_by s.hold k) (λ e. ne ((parts.statuses.executing k).1 e))
+not_taken job s k parts ne = false_from_ne_true (is_taken_by s.hold k) (λ e. ne ((parts.statuses.executing k).1 e))
 
 pub is_executing : (job : CoreJob) (s : State) (k : ℕ) → Parts job s → is_taken_by s.hold k ≡ true → s.status k ≡ Executing
 is_executing job s k parts e = (parts.statuses.executing k).1 e
@@ -74,7 +64,7 @@ no_place : (o : Maybe Place) → ((place : Place) → o ≡ Some place → ⊥) 
 no_place None h = refl
 no_place (Some place) h = absurd (h place refl)
 
-true_is_false : (b : Bool) → b ≡ true → b ≡ false → ⊥
+pub true_is_false : (b : Bool) → b ≡ true → b ≡ false → ⊥
 true_is_false b e f = cc
 
 -- a call that is not served, and is not taken by a hold that has published, is not in the book
@@ -99,13 +89,3 @@ not_in_book job s w n t leaf parts task kind call not_got not_served early = no_
         ]
       ]
     ])
-
--- an operation under a book is of a call
-from_call : (book : List (List Entry)) (own : Maybe Op) (source : Maybe ℕ) (op : Op) → op_from book own source ≡ Some op → own ≢ None
-from_call book None None op e = λ _. cc
-from_call book None (Some r) op e = λ _. cc
-from_call book (Some x) source op e = λ f. cc
-
--- the leaf of a call
-pub is_call : (job : CoreJob) (book : List (List Entry)) (leaf : ℕ) (op : Op) → op_of job book leaf ≡ Some op → IsCall job leaf
-is_call job book leaf op e = from_call book (op_in (job.act leaf)) (job.source leaf) op e

@@ -40,7 +40,7 @@ use Rattle.core_model.specs.Lists.{ready_after}
 use Rattle.table_rule.specs.Words.{stop_at}
 use Rattle.table_rule.proofs.TableLemmas.Traces.{AddsEvent, reached_next, agree_next, agree_still, stop_still}
 use Rattle.table_rule.proofs.TableLemmas.Through.{told_kept}
-use Rattle.table_rule.proofs.TableLemmas.Words.{put_at, put_other}
+use Rattle.core_model.proofs.InvariantLemmas.Puts.{put_at, put_other}
 
 -- the seat id, whose range is k alone, is the seat of worker k
 pub mine_of : (job : CoreJob) (room : ℕ) (t : TableState) (o : Shows job room t) (id k : ℕ) (v : View) → get_elem? t.views id ≡ some v → v.own.worker ≡ k → v.to ≡ k + 1
@@ -168,7 +168,7 @@ pub record_took : (taken : List Call) (u : ℕ) (call : OpRecord) → record_in 
 record_took [] u call e = absurd (cc)
 record_took (t ∷ taken) u call e = let again = record_took taken u call in grind (arith, nat_tests, again)
 
-held_yes : (took answered : Bool) → took ≡ true → answered ≡ false → (took && not answered) ≡ true
+pub held_yes : (took answered : Bool) → took ≡ true → answered ≡ false → (took && not answered) ≡ true
 held_yes took answered a b = grind arith
 
 -- a free worker is not one that the holder took and has not answered

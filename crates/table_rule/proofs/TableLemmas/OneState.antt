@@ -61,7 +61,7 @@ same_progress (Ran w s e) (Ran v t f) same low low' leaf leaf' =
     let end = sym (end_of w s e p.0 p.1) ∙ (ap end_in same ∙ end_of v t f q.0 q.1) in
     λ i. Ran (worker i) (start i) (end i)
 
-receipts : (r q : Receipt) → Slots.Receipt r ≡ Slots.Receipt q → r ≡ q
+pub receipts : (r q : Receipt) → Slots.Receipt r ≡ Slots.Receipt q → r ≡ q
 receipts r q e = cc
 
 shops : (a b : List (List Entry)) → Slots.Shop a ≡ Slots.Shop b → a ≡ b

@@ -21,8 +21,8 @@ use Rattle.table_rule.specs.declared.slot.Slot.{Slot}
 use Rattle.table_rule.specs.declared.slot.Slot.TheVariants as Slots
 use Rattle.table_rule.specs.Laws.{Laws}
 use Rattle.table_rule.specs.Shows.{SlotHome, IsPrefix, IsRecordOf, IsTold, RecordAt, ShopAt, BookAt, SlotsShow, hold_of, HoldKnown, AgreesWithView}
-use Rattle.table_rule.proofs.TableLemmas.Words.{put_at, put_other}
 use Rattle.table_rule.proofs.TableLemmas.Facts.{is_trapped}
+use Rattle.core_model.proofs.InvariantLemmas.Puts.{put_at, put_other}
 
 -- the views of a pass before and after a step that keeps its task and its call
 pub record SameTold (v w : View) : Type 0 where

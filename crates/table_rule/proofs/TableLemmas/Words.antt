@@ -1,12 +1,12 @@
 -- How the words change when one part of the state that they encode changes.
-use Rattle.std.proofs.Common.{ℕ, ◌≡◌, ◌≢◌, ◌<◌, Option, Some, List, get_or, set, arith, refl, sym, ◌∙◌, subst, inl, inr, length-set, get_or-set_other, get_or-set_same}
-use Rattle.std.proofs.lemmas.Bool.Decides.{nat_tests}
+use Rattle.std.proofs.Common.{ℕ, ◌≡◌, ◌<◌, Option, Some, List, get_or, set, arith, refl, sym, ◌∙◌, subst, inl, inr, length-set, get_or-set_other, get_or-set_same}
 use Rattle.std.proofs.lemmas.Bool.{cases_eq}
 use Rattle.core_model.specs.declared.progress.Progress.{Progress}
 use Rattle.core_model.specs.declared.progress.Progress.TheVariants.{Ran}
 use Rattle.core_model.specs.declared.status.Status.{Status}
 use Rattle.core_model.specs.State.{put, Hold}
 use Rattle.table_rule.specs.Words.{flag_at, count_at, tick_at, stop_at, node_at, mark_at, value_at, progress_code, worker_in, start_in, end_in, status_code, flag_code, HasValue, WordsShow}
+use Rattle.core_model.proofs.InvariantLemmas.Puts.{put_at, put_other}
 
 -- the parts of the word of a leaf that has run
 pub worker_of : (w s e : ℕ) → w < 32 → worker_in (progress_code (Ran w s e)) ≡ w
@@ -17,12 +17,6 @@ start_of w s e low low' = omega arith
 
 pub end_of : (w s e : ℕ) → w < 32 → s < 1048576 → end_in (progress_code (Ran w s e)) ≡ e
 end_of w s e low low' = omega arith
-
-pub put_at : {A : Type 0} (f : ℕ → A) (w v : ℕ) (x : A) → v ≡ w → put f w x v ≡ x
-put_at f w v x e = grind (arith, nat_tests)
-
-pub put_other : {A : Type 0} (f : ℕ → A) (w v : ℕ) (x : A) → v ≢ w → put f w x v ≡ f v
-put_other f w v x e = grind (arith, nat_tests)
 
 pub value_word : (v : Option ℕ) (a b : ℕ) → a ≡ b → HasValue v b → HasValue v a
 value_word v a b e h = rw e h

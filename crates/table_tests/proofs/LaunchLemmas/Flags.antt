@@ -1,7 +1,7 @@
 -- What a pass that has the flag has in hand after each of its calls.
-use Rattle.std.proofs.Common.{ℕ, zero, suc, ◌≡◌, ◌≢◌, ◌<◌, ◌≤◌, ◌+◌, true, false, Some, List, [], ◌∷◌, ◌++◌, length, map, get_or, take, arith, refl, sym, ap, ◌∙◌, subst, inr}
+use Rattle.std.proofs.Common.{ℕ, zero, suc, ◌≡◌, ◌≢◌, ◌<◌, ◌≤◌, ◌+◌, true, false, Some, List, [], ◌∷◌, ◌++◌, length, get_or, take, arith, refl, sym, ap, ◌∙◌, subst, inr}
 use Rattle.std.proofs.lemmas.List.{take_all, length-map}
-use Rattle.std.proofs.lemmas.Option.{slice_get-get_or}
+use Rattle.std.proofs.lemmas.Option.{slice_get-get_or, same_Some}
 use Rattle.sp_order.specs.Jobs.{tree_or_leaf}
 use Rattle.sp_order.specs.Precedence.{Tree}
 use Rattle.sp_order.specs.Preorder.{nodes_of}
@@ -30,9 +30,6 @@ use Rattle.worker_turns.proofs.HoldLemmas.Fits.{fit_taken, fit_passed}
 use Rattle.worker_turns.proofs.HoldLemmas.Serving as serving
 use Rattle.table_tests.specs.Adds.{IsTwoAdds}
 use Rattle.table_tests.specs.Launches.{HasFlag, Answers}
-
-same_hold : (a b : HoldView) → Some a ≡ Some b → a ≡ b
-same_hold a b e = cc
 
 few_calls : (t : CoreTable) → IsTwoAdds t → call_count (job_in t) ≤ 20000
 unfolding nodes_of
@@ -71,7 +68,7 @@ module _ (t : CoreTable) (node n : ℕ) (before : List (List Entry)) (calls : Li
         → items ≡ calls ++ call_by n call ∷ [] → HasFlag t node before (n + 1) items q
     flag_took call items two low h held new now put =
         let g = after_take (call_by n call) in
-        let same : h ≡ f.h = same_hold h f.h (sym held ∙ f.hold) in
+        let same : h ≡ f.h = same_Some h f.h (sym held ∙ f.hold) in
         record {
           own = own;
           start = f.start;

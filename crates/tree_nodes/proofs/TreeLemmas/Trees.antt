@@ -1,5 +1,5 @@
 -- Balanced trees whose keys strictly ascend and have 32 bits: bounds, and what preserves them.
-use Rattle.std.proofs.Common.{◌≡◌, ℕ, ◌+◌, ◌<◌, ◌≤◌, ◌^◌, List, [], ◌∷◌, ◌++◌, length, subst, arith, inl, inr}
+use Rattle.std.proofs.Common.{◌≡◌, ℕ, ◌+◌, ◌<◌, ◌≤◌, ◌^◌, List, ◌++◌, length, subst, arith, inl, inr}
 use Rattle.std.specs.List.{AllByRecursion}
 use Rattle.std.proofs.lemmas.Bool.{cases_order}
 use Rattle.std.proofs.Math.Nat.{pow-le-pow_right}
@@ -9,10 +9,7 @@ use Rattle.tree_nodes.specs.Nodes.{keys, depth, IsTree, IsSet}
 use Rattle.key_sets.specs.Splits.{IsSplit}
 use Rattle.key_sets.proofs.KeyLemmas.Ascending.{all_append, all_front, all_back, all_with, all_without, ascends_front, ascends_back, ascends_both, ascends_with, ascends_without, length_in_range}
 use Rattle.tree_nodes.proofs.TreeLemmas.Depths.{depth_within, keys_at_least}
-
-all_from_0 : (xs : List ℕ) → AllByRecursion (λ k. 0 ≤ k) xs
-all_from_0 [] = tt
-all_from_0 (x ∷ xs) = (omega arith, all_from_0 xs)
+use Rattle.key_sets.proofs.GroupLemmas.Cutting.{all_from_0}
 
 pub set_length : (root : Tree) → IsSet root → length (keys root) ≤ 2 ^ 32
 set_length root s = omega (arith, length_in_range (2 ^ 32) 0 (keys root) s.ascends (all_from_0 (keys root)) s.small (omega arith))

@@ -3,13 +3,15 @@ use Rattle.std.proofs.Common.{ℕ, zero, suc, ◌≡◌, ◌≢◌, ◌+◌, Opt
 use Rattle.std.specs.Prelude.{slice_get}
 use Rattle.std.specs.List.{AllByRecursion}
 use Rattle.seq_objects.specs.Pairs.{AreDistinct}
-use Rattle.launch_batch.proofs.ListLemmas.Elements.{each_mapped, each_unmapped}
+use Rattle.launch_batch.proofs.ListLemmas.Elements.{each_mapped}
 use Rattle.batch_history.specs.Book.{flat}
 use Rattle.core_model.specs.Operations.{Place, place_in, place_of, or_else, IsReceipt}
 use Rattle.batch_history.proofs.BookLemmas.Books.{each_in_book, found_in_book, place_append}
 use Rattle.core_model.specs.Words.{Entry}
 use Rattle.worker_crew.specs.Words.{Receipt}
-use Rattle.table_rule.proofs.ListLemmas.Last.{if_yes, if_no}
+use Rattle.core_model.proofs.ReportLemmas.RowLists.{each_got}
+use Rattle.seq_objects.proofs.Elements.{each_unmapped}
+use Rattle.core_model.proofs.BookLemmas.OwnEntries.{if_other, if_same}
 
 -- a leaf that is not found there is that of no entry
 pub new_leaf : (book : List (List Entry)) (leaf : ℕ) → place_of book leaf ≡ None → AllByRecursion (λ other. leaf ≢ other) (map (λ (entry : Entry). entry.leaf) (flat book))
@@ -27,12 +29,6 @@ unbooked book leaf new = none_by (place_of book leaf) (λ place at.
     let found = found_in_book (λ (entry : Entry). leaf ≢ entry.leaf) book leaf place (each_unmapped (λ (entry : Entry). entry.leaf) (λ other. leaf ≢ other) (flat book) new) at in
     found.0 (sym found.1))
 
--- what holds of each holds of the one at a place
-pub get_each : {A : Type 0} (P : A → Type 0) (xs : List A) (place : ℕ) (x : A) → AllByRecursion P xs → slice_get xs place ≡ Some x → P x
-get_each P [] place x all at = absurd (cc)
-get_each P (y ∷ xs) zero x all at = let same : y ≡ x = cc in subst P same all.0
-get_each P (y ∷ xs) (suc place) x all at = get_each P xs place x all.1 at
-
 -- where no leaf stands twice in a batch, each of its entries is found at its place
 pub found_at : (number first : ℕ) (batch : List Entry) (place : ℕ) (entry : Entry) → AreDistinct (map (λ (e : Entry). e.leaf) batch) → slice_get batch place ≡ Some entry
     → place_in number first batch entry.leaf ≡ Some (record { batch = number; place = first + place; entry = entry })
@@ -40,12 +36,12 @@ found_at number first [] place entry distinct at = absurd (cc)
 found_at number first (e ∷ batch) zero entry distinct at =
     let same : e ≡ entry = cc in
     let there : first ≡ first + zero = omega arith in
-    if_yes e.leaf entry.leaf (Some (record { batch = number; place = first; entry = e })) (place_in number (first + 1) batch entry.leaf) (ap (λ (x : Entry). x.leaf) same)
+    if_same e.leaf entry.leaf (Some (record { batch = number; place = first; entry = e })) (place_in number (first + 1) batch entry.leaf) (ap (λ (x : Entry). x.leaf) same)
     ∙ (λ i. Some (record { batch = number; place = there i; entry = same i }))
 found_at number first (e ∷ batch) (suc place) entry distinct at =
     let there : first + 1 + place ≡ first + suc place = omega arith in
-    if_no e.leaf entry.leaf (Some (record { batch = number; place = first; entry = e })) (place_in number (first + 1) batch entry.leaf)
-    (get_each (λ (x : Entry). e.leaf ≢ x.leaf) batch place entry (each_unmapped (λ (x : Entry). x.leaf) (λ n. e.leaf ≢ n) batch distinct.0) at)
+    if_other e.leaf entry.leaf (Some (record { batch = number; place = first; entry = e })) (place_in number (first + 1) batch entry.leaf)
+    (each_got (λ (x : Entry). e.leaf ≢ x.leaf) batch place entry (each_unmapped (λ (x : Entry). x.leaf) (λ n. e.leaf ≢ n) batch distinct.0) at)
     ∙ found_at number (first + 1) batch place entry distinct.1 at
     ∙ (λ i. Some (record { batch = number; place = there i; entry = entry }))
 

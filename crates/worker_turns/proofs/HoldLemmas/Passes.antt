@@ -20,9 +20,6 @@ is_out (Got receipt) trapped = absurd (cc)
 pub held_at : (P : HoldView → Type 0) (hold : Option HoldView) (h : HoldView) → Holds P hold → hold ≡ Some h → P h
 held_at P hold h is at = subst (Holds P) at is
 
-pub same_hold : (h k : HoldView) → Some h ≡ Some k → h ≡ k
-same_hold h k e = cc
-
 -- what is seen of a pass, by its seat's view
 pub own_of : (a b : View) → a ≡ b → a.own ≡ b.own
 own_of a b is = ap (λ (v : View). v.own) is

@@ -4,9 +4,8 @@ use Rattle.std.specs.Prelude.{Contains, slice_get}
 use Rattle.std.specs.List.{AllByRecursion}
 use Rattle.seq_objects.specs.BatchOrder.{ComesFirst}
 use Rattle.seq_objects.specs.Pairs.{AllPairsByRecursion, AreDistinct}
-use Rattle.seq_objects.proofs.Elements.{each_so}
+use Rattle.seq_objects.proofs.Elements.{each_so, each_unmapped}
 use Rattle.launch_batch.specs.Calls.{MayServe, IsServiceOf}
-use Rattle.launch_batch.proofs.ListLemmas.Elements.{each_unmapped}
 use Rattle.launch_batch.proofs.ListLemmas.Same.{distinct_same, length_same}
 use Rattle.batch_history.specs.Book.{flat}
 use Rattle.batch_history.specs.Serving.{call_in, calls_in}
@@ -14,14 +13,15 @@ use Rattle.core_model.specs.Operations.{place_of, IsReceipt}
 use Rattle.table_rule.specs.declared.slot.OpRecord.{OpRecord}
 use Rattle.table_rule.specs.declared.view.HoldView.{HoldView}
 use Rattle.table_rule.specs.Shows.{took_in, record_in, among}
-use Rattle.table_rule.specs.Batches.{call_of, ServesTaken, IsPublishDue, IsReleaseDue}
+use Rattle.table_rule.specs.Batches.{call_of, IsPublishDue, IsReleaseDue}
 use Rattle.seq_objects.specs.declared.call.Call.{Call}
 use Rattle.core_model.specs.Words.{Entry}
 use Rattle.worker_crew.specs.Words.{Receipt}
 use Rattle.worker_turns.specs.Holds.{workers_in, IsPublished, TookNone, ServedAll}
 use Rattle.launch_batch.proofs.ListLemmas.Among.{Among, all_among, each_among, among_same, same_among}
 use Rattle.worker_turns.proofs.HoldLemmas.Taken.{worker_of, record_taken, took_taken, taken_took, among_there, not_among}
-use Rattle.worker_turns.proofs.HoldLemmas.Books.{get_each, receipt_due}
+use Rattle.worker_turns.proofs.HoldLemmas.Books.{receipt_due}
+use Rattle.core_model.proofs.ReportLemmas.RowLists.{each_got}
 
 -- the workers and the leaves of entries are those of their calls
 workers_same : (batch : List Entry) → map worker_of (calls_in batch) ≡ workers_in batch
@@ -110,7 +110,7 @@ publish_due workers h batch looked early may service =
 apart_before : (ns : List ℕ) (place n : ℕ) → AreDistinct ns → slice_get ns place ≡ Some n → AllByRecursion (λ m. m ≢ n) (take place ns)
 apart_before [] place n distinct at = absurd (cc)
 apart_before (m ∷ ns) zero n distinct at = tt
-apart_before (m ∷ ns) (suc place) n distinct at = (get_each (λ x. m ≢ x) ns place n distinct.0 at, apart_before ns place n distinct.1 at)
+apart_before (m ∷ ns) (suc place) n distinct at = (each_got (λ x. m ≢ x) ns place n distinct.0 at, apart_before ns place n distinct.1 at)
 
 get_mapped : {A B : Type 0} (f : A → B) (xs : List A) (place : ℕ) (x : A) → slice_get xs place ≡ Some x → slice_get (map f xs) place ≡ Some (f x)
 get_mapped f [] place x at = absurd (cc)
@@ -130,12 +130,12 @@ answer_due h before batch number place entry published numbered answered at =
     (get_mapped (λ (e : Entry). e.worker) batch place entry at) in
     let others = subst (AllByRecursion (λ m. m ≢ entry.worker)) (sym answered) apart in
     let there = same_among h.taken (calls_in batch) service.same (call_in entry)
-    (get_each (λ (e : Entry). Among (call_in e) (calls_in batch)) batch place entry (entry_among batch) at) in
+    (each_got (λ (e : Entry). Among (call_in e) (calls_in batch)) batch place entry (entry_among batch) at) in
     let IsNew = λ (leaf : ℕ). AllByRecursion (λ other. leaf ≢ other) (map (λ (e : Entry). e.leaf) (flat before)) in
     let new = each_among (λ (c : Call). IsNew c.leaf) h.taken (call_in entry) (each_unmapped (λ (c : Call). c.leaf) IsNew h.taken may.new) there in (
       call_of entry,
       published.published,
-      get_each (λ (e : Entry). record_in h.taken e.worker ≡ Some (call_of e)) batch place entry (entry_taken h before batch may service) at,
+      each_got (λ (e : Entry). record_in h.taken e.worker ≡ Some (call_of e)) batch place entry (entry_taken h before batch may service) at,
       not_among h.answered entry.worker others,
       subst (λ book. IsReceipt (place_of book entry.leaf) receipt) (sym published.book)
           (receipt_due before batch receipt entry new (batch_leaves h before batch may service) numbered at refl),

@@ -1,10 +1,9 @@
 -- The batch of a launch: how many entries and batches there are, and what is known of it.
-use Rattle.std.proofs.Common.{◌≡◌, ℕ, ◌≤◌, true, Option, None, Some, List, [], ◌∷◌, ◌++◌, length, get_or, sym, refl, ap, ◌∙◌, subst, arith, append_assoc, length-append}
+use Rattle.std.proofs.Common.{◌≡◌, ℕ, ◌≤◌, Option, None, Some, List, [], ◌∷◌, ◌++◌, length, get_or, sym, refl, ap, ◌∙◌, subst, arith, append_assoc}
 use Rattle.std.proofs.lemmas.List.{length-map}
-use Rattle.std.specs.List.{AllByRecursion}
-use Rattle.batch_history.specs.Book.{flat, IsBatch, IsHistory}
+use Rattle.batch_history.specs.Book.{IsHistory}
 use Rattle.batch_history.specs.Serving.{calls_in, call_in}
-use Rattle.launch_batch.specs.Calls.{MayServe, ArePermutations, IsServiceOf}
+use Rattle.launch_batch.specs.Calls.{MayServe, IsServiceOf}
 use Rattle.seq_objects.specs.declared.call.Call.{Call}
 use Rattle.core_model.specs.Words.{Entry}
 use Rattle.table_rule.specs.declared.view.HoldView.{HoldView}
@@ -17,20 +16,13 @@ use Rattle.worker_turns.specs.Stops.{HasOnlyLooked}
 use Rattle.worker_turns.specs.Launches.{answer_events, serve_events}
 use Rattle.worker_turns.specs.Code.Serving.{Holds, IsAnswerable, HasTaken, taken_hold, after_service, after_answers, answered_all}
 use Rattle.worker_turns.proofs.HoldLemmas.Serving.{publish_due}
-
-same_length : {X : Type 0} (xs ys : List X) → ArePermutations xs ys → length ys ≡ length xs
-same_length [] ys same = ap (λ l. length l) same
-same_length (x ∷ xs) ys (before, later, split, rest) =
-    let n = same_length xs (before ++ later) rest in
-    let l = length-append before later in
-    let m = length-append before (x ∷ later) in
-    let whole = ap (λ l. length l) split in
-    omega (arith, n, l, m, whole)
+use Rattle.launch_batch.proofs.ListLemmas.Same.{length_same}
+use Rattle.core_model.proofs.BookLemmas.Room.{few_batches}
 
 few_in : (number : ℕ) (batch : List Entry) (h : Option HoldView) → Holds (IsAnswerable number batch) h → length batch ≤ 20000
 few_in number batch None due = absurd due
 few_in number batch (Some h) due =
-    let same = same_length h.taken (calls_in batch) due.published.service.same in
+    let same = length_same h.taken (calls_in batch) due.published.service.same in
     let m = length-map batch call_in in
     let most = due.published.may.most in
     omega (arith, same, m, most)
@@ -54,12 +46,6 @@ answerable p q r workers number calls book batch entries (found, hold) may servi
     subst (λ (es : List Entry). Holds (IsAnswerable number es) r.hold) (sym all)
     (subst (Holds (IsAnswerable number batch)) (sym (ap (λ (s : PassView). s.hold) now ∙ ap (λ (s : PassView). (publishing batch s).hold) looks.same ∙ ap (in_hold _) hold))
     (record { before = book; published = record { published = refl; book = refl; may = may; service = service }; numbered = is; none = refl }))
-
--- no batch is empty, so there are no more batches than entries
-few_batches : (book : List (List Entry)) → AllByRecursion IsBatch book → length book ≤ length (flat book)
-few_batches [] h = omega arith
-few_batches ([] ∷ book) h = absurd (h.0.some refl)
-few_batches ((e ∷ es) ∷ book) h = let more = few_batches book h.1 in omega (arith, length-append es (flat book), more)
 
 pub few_before : (book : List (List Entry)) (calls : List Call) → IsHistory book → MayServe book calls → length book ≤ 20000
 few_before book calls history may =

@@ -7,7 +7,7 @@ use Rattle.table_rule.specs.declared.view.HoldView.{HoldView}
 use Rattle.table_rule.specs.Passes.{after_take, after_pass, in_hold, taking, skipping}
 use Rattle.worker_turns.specs.Holds.{AreFit}
 use Rattle.table_rule.specs.declared.view.PassView.{PassView}
-use Rattle.table_rule.proofs.ListLemmas.Last.{if_no}
+use Rattle.core_model.proofs.BookLemmas.OwnEntries.{if_other}
 use Rattle.worker_turns.specs.Launches.{pending_in, AreFound, look_events}
 use Rattle.worker_turns.specs.Code.Serving.{Holds, IsNewHold, after_looks, looked, HasLooked}
 
@@ -50,7 +50,7 @@ pending_more first (status ∷ found) =
     (pending_more (first + 1) found ∙ ap (λ n. pending_in (first + 1) found ++ n ∷ []) later)
 
 pending_same : (first : ℕ) (found : List ℕ) (status : ℕ) → status ≢ 1 → pending_in first (found ++ status ∷ []) ≡ pending_in first found
-pending_same first [] status other = if_no status 1 (first ∷ []) [] other
+pending_same first [] status other = if_other status 1 (first ∷ []) [] other
 pending_same first (s ∷ found) status other = ap (λ l. if s == 1 then first ∷ l else l) (pending_same (first + 1) found status other)
 
 one_longer : (u : ℕ) (found : List ℕ) (status : ℕ) → length found ≡ u → length (found ++ status ∷ []) ≡ u + 1

@@ -27,7 +27,7 @@ use Rattle.worker_turns.specs.Launches.{ExecutesPieces, Collects, Launches, laun
 use Rattle.worker_turns.specs.Trapped.{IsTrappedTurn, IsJobSame, refused_both}
 use Rattle.worker_turns.specs.Free.{IsOther, IsOwnNode, StoleNothing, IsFreeTurn, Helps}
 use Rattle.worker_turns.specs.Meanings.Stays.{IsStillTrapped, IsAnswered, CallAfter, KeepsNodes, HelpsNone}
-use Rattle.worker_turns.proofs.PieceLemmas.Working.{works_tried}
+use Rattle.worker_turns.proofs.PieceLemmas.Working.{works_tried, other_core}
 use Rattle.worker_turns.proofs.CarryLemmas.Steps.{front_none, helps_none, helps_then, helps_works}
 use Rattle.worker_turns.proofs.MeaningLemmas.Trapped.{not_ran_desk}
 
@@ -76,10 +76,6 @@ own_pass t old a p = ap (λ (m : WorkerView). m.pass) p.same
 pub other_pass : (t : PieceAttempt) (old new : WorkerView) → IsOtherPiece t old new → new.pass ≡ old.pass
 other_pass t old new (inl alone) = ap (λ (m : WorkerView). m.pass) alone.2
 other_pass t old new (inr s) = ap (λ (m : WorkerView). m.pass) s.same
-
-other_core : (t : PieceAttempt) (old new : WorkerView) → IsOtherPiece t old new → new.core ≡ old.core
-other_core t old new (inl alone) = ap (λ (m : WorkerView). m.core) alone.2
-other_core t old new (inr s) = ap (λ (m : WorkerView). m.core) s.same
 
 other_desk : (t : PieceAttempt) (old new : WorkerView) → IsOtherPiece t old new → new.desk ≡ desk_after t old.desk
 other_desk t old new (inl alone) = ap (λ (m : WorkerView). m.desk) alone.2 ∙ ap (λ (u : PieceAttempt). desk_after u old.desk) (sym alone.1)

@@ -1,8 +1,9 @@
 use Rattle.std.proofs.Common.{◌≡◌, ◌<◌, ◌-◌, ◌+◌, ◌++◌, ◌∷◌, [], length, reverse, drop, get_or, ◌∙◌, sym, ap, append_assoc, arith}
 use Rattle.std.proofs.lemmas.Grind.{common_steps}
-use Rattle.batched_stack.proofs.ServeLemmas.Taken.{take_one_less, drop_one_more, last_taken, same_item}
+use Rattle.batched_stack.proofs.ServeLemmas.Taken.{take_one_less, drop_one_more, last_taken}
 use Rattle.batched_stack.proofs.serve.take_newest.Goals as goal
 use Rattle.batched_stack.proofs.serve.take_newest.Goals.{in-Some+in_ok-push, in_default}
+use Rattle.std.proofs.lemmas.Option.{same_Some}
 
 pub loop-preserved : goal.loop-preserved
 loop-preserved c =
@@ -13,7 +14,7 @@ loop-preserved c =
     let some : 0 < c.loop.items.len = rw (c.loop.items.ok.0, c.loop.invariant.items) (grind (arith, common_steps, more)) in
     elim c.match-pop.branch [
       | in-Some+in_ok-push w ↦
-          let top = same_item _ _ (sym w.in-Some.is ∙ c.pop.ensures.value 0 some) in
+          let top = same_Some _ _ (sym w.in-Some.is ∙ c.pop.ensures.value 0 some) in
           let last : w.in-Some.item ≡ get_or items (length items - (count + 1)) 0 = top ∙ rw (c.loop.items.ok.0, c.loop.invariant.items) (last_taken items count more) in
           record {
             items = c.pop.ensures.rest ∙ rw (c.loop.items.ok.0, c.loop.invariant.items) (take_one_less items count more);

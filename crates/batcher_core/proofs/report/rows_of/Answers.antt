@@ -5,7 +5,7 @@ use Rattle.batch_history.specs.declared.row.Row.{Row}
 use Rattle.core_model.specs.declared.progress.Progress.TheVariants.{Waiting}
 use Rattle.core_state.specs.Places.{at}
 use Rattle.core_model.specs.Reports.{TellsLeaf}
-use Rattle.batch_history.proofs.BookLemmas.EntryLists.{each_append}
+use Rattle.seq_objects.proofs.Elements.{each_append}
 use Rattle.batcher_core.proofs.ReportLemmas.MadeRows.{run_within, next_row, told_next}
 use Rattle.batcher_core.proofs.report.rows_of.Goals as goal
 

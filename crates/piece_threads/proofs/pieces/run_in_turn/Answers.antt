@@ -1,6 +1,6 @@
 use Rattle.std.proofs.Common.{arith}
 use Rattle.std.proofs.lemmas.Grind.{common_steps}
-use Rattle.piece_threads.proofs.BundleLemmas.{meets_more}
+use Rattle.seq_objects.proofs.Meets.{meets_more}
 use Rattle.piece_threads.proofs.pieces.run_in_turn.Goals as goal
 
 pub loop-input-preserved : goal.loop-input-preserved

@@ -3,7 +3,7 @@ use Rattle.sp_order.specs.Jobs.{job_tree}
 use Rattle.sp_order.specs.Preorder.{nodes_of}
 use Rattle.std.proofs.Common.{inl}
 use Rattle.core_model.specs.Operations.{Place, or_else, place_in}
-use Rattle.table_rule.proofs.ListLemmas.Lists.{call_within}
+use Rattle.core_model.proofs.BookLemmas.CallsIn.{call_within}
 use Rattle.table_rule.specs.Shows.{job_of}
 use Rattle.table_rule.proofs.laws.laws_hold.Goals as goal
 

@@ -7,10 +7,11 @@ use Rattle.table_rule.specs.Passes.{call_by, in_hold, after_take, after_pass}
 use Rattle.core_table.specs.Passes.{job_in, pass_view, planned_in}
 use Rattle.worker_turns.specs.Holds.{AreFit}
 use Rattle.worker_turns.specs.Code.Serving.{Holds}
-use Rattle.worker_turns.proofs.HoldLemmas.Passes.{held_at, same_hold, own_of}
+use Rattle.worker_turns.proofs.HoldLemmas.Passes.{held_at, own_of}
 use Rattle.worker_turns.proofs.HoldLemmas.Fits.{fit_taken, fit_passed}
 use Rattle.worker_turns.proofs.HoldLemmas.Room.{calls_few}
 use Rattle.worker_turns.proofs.launching.take_pending.Goals as goal
+use Rattle.std.proofs.lemmas.Option.{same_Some}
 
 pub take-requires-clause-due : goal.take-requires-clause-due
 take-requires-clause-due c = let next = c.requires.next in (next.0, next.1, (next.2, c.requires.below))
@@ -22,7 +23,7 @@ returns-in-Ok-clause-fit c =
     let t = c.in-Ok.ensures.took in
     let take = after_take (call_by c.args.u c.in-Ok.call) in
     let next = c.requires.next in
-    let is : c.args.u ≡ t.0.looks = next.2 ∙ ap (λ (h : HoldView). h.looks) (same_hold next.0 t.0 (sym next.1 ∙ t.1)) in
+    let is : c.args.u ≡ t.0.looks = next.2 ∙ ap (λ (h : HoldView). h.looks) (same_Some next.0 t.0 (sym next.1 ∙ t.1)) in
     let few = calls_few (job_in table) (job_tree (planned_in table)) (c.plan_stands_for_tree.ensures (job_tree (planned_in table))) in
     let acts = table.acts in
     let workers = table.few in

@@ -1,7 +1,7 @@
 use Rattle.std.proofs.Common.{ℕ, ◌≡◌, ◌∙◌, Some, refl, sym, ap, subst, arith}
 use Rattle.table_rule.specs.declared.slot.Slot.TheVariants as Slots
 use Rattle.table_rule.specs.Shows.{room_of, job_of}
-use Rattle.core_table.proofs.PassLemmas.PassKept.{first, swapped, found_slot, same_receipt}
+use Rattle.core_table.proofs.PassLemmas.PassKept.{first, swapped, found_slot}
 use Rattle.table_rule.proofs.StepLemmas.GateSteps.{leaves}
 use Rattle.core_model.specs.State.{CoreJob}
 use Rattle.core_model.specs.Entries.{StandsAt}
@@ -11,6 +11,7 @@ use Rattle.table_rule.specs.Plays.{SeatState}
 use Rattle.table_rule.specs.Shows.{entry_of}
 use Rattle.table_rule.specs.Views.{with_step}
 use Rattle.core_table.proofs.table.CoreTable.leave.Goals as goal
+use Rattle.table_rule.proofs.TableLemmas.OneState.{receipts}
 
 pub compare_exchange-seen-requires : goal.compare_exchange-seen-requires
 compare_exchange-seen-requires c =
@@ -32,7 +33,7 @@ returns-clause-left c =
     let (call, receipt, posted, before, soon, (book, front, op, stands, is)) = c.compare_exchange-seen.ensures.2.0 c.if-seen-ne3.false in
     let w = with_step (leaving call receipt book) old.me.0 in
     let found = found_slot c.compare_exchange-seen.new.seat.me w k c.exchange.result (Slots.Receipt receipt) old.me.1 _ is c.exchange.ensures.2 in
-    let same : receipt ≡ c.in-Receipt.receipt = same_receipt receipt c.in-Receipt.receipt (found ∙ c.in-Receipt.is) in
+    let same : receipt ≡ c.in-Receipt.receipt = receipts receipt c.in-Receipt.receipt (found ∙ c.in-Receipt.is) in
     let put = swapped _ _ w k (Slots.Receipt receipt) Slots.Vacant old.me.1 is c.exchange.ensures.3 in
     rw (sym same) (
       call,

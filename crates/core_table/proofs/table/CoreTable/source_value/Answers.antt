@@ -3,7 +3,7 @@ use Rattle.table_rule.specs.Passes.{telling}
 use Rattle.table_rule.specs.Views.{with_step}
 use Rattle.table_rule.specs.Shows.{room_of, job_of}
 use Rattle.sp_order.specs.declared.node.Kind.TheVariants.{LeafNode}
-use Rattle.table_rule.proofs.ListLemmas.Lists.{call_within}
+use Rattle.core_model.proofs.BookLemmas.CallsIn.{call_within}
 use Rattle.table_rule.proofs.StepLemmas.Sides.{block_in}
 use Rattle.table_rule.proofs.StepLemmas.LookSteps.{looks_at_value}
 use Rattle.core_table.proofs.PassLemmas.PassKept.{pass_kept}

@@ -6,7 +6,7 @@ use Rattle.core_table.proofs.PassLemmas.PassKept.{held_out, looks_after, pass_ma
 use Rattle.table_rule.specs.declared.view.HoldView.{HoldView}
 use Rattle.table_rule.specs.TracksHold.{Owes}
 use Rattle.core_table.proofs.ListLemmas.Owed.{remembers_hold, owes_passed, owes_taken}
-use Rattle.core_table.proofs.PassLemmas.PassKept.{same_hold}
+use Rattle.std.proofs.lemmas.Option.{same_Some}
 use Rattle.table_rule.specs.Passes.{call_by, in_hold, after_take, after_pass, taking, skipping}
 use Rattle.table_rule.specs.Views.{with_step, with_found}
 use Rattle.table_rule.proofs.StepLemmas.GateSteps.{looks}
@@ -38,7 +38,7 @@ returns-then-seen-ne1-clause-pass c =
     pass_made c.args.self.now.setting _ c.args.pass.now.worker old c.compare_exchange-seen.new.seat w old.me.1 c.compare_exchange-seen.ensures.0 (e.4 c.if-seen-ne1.true) refl refl refl refl refl refl
     (carries_passed c.args.pass.now.worker c.args.u old.me.0 e.0 c.compare_exchange-seen.result old.me.1 out e.1 c.requires.pass.7)
     (let m = c.requires.pass.8.holds e.0 e.1 in remembers_hold w _ _ (after_pass c.compare_exchange-seen.result e.0) (ap (in_hold (after_pass c.compare_exchange-seen.result)) e.1) m.0 m.1 (owes_passed e.0 c.compare_exchange-seen.result m.2))
-    (looks_after c.args.self.now.setting.workers (after_pass c.compare_exchange-seen.result) old.me.0.own.hold e.0 e.1 (let due = c.requires.due in let at = ap (λ (h : HoldView). h.looks) (same_hold due.0 e.0 (sym due.1 ∙ e.1)) in omega (arith, at, due.2.0, due.2.1))) c.requires.pass
+    (looks_after c.args.self.now.setting.workers (after_pass c.compare_exchange-seen.result) old.me.0.own.hold e.0 e.1 (let due = c.requires.due in let at = ap (λ (h : HoldView). h.looks) (same_Some due.0 e.0 (sym due.1 ∙ e.1)) in omega (arith, at, due.2.0, due.2.1))) c.requires.pass
 
 pub returns-clause-pass : goal.returns-clause-pass
 returns-clause-pass c =
@@ -53,10 +53,10 @@ returns-clause-pass c =
     (carries_took c.args.pass.now.worker u old.me.0 e.0 t.0 old.me.1 out e.1 e.2 c.requires.pass.7)
     (let m = c.requires.pass.8.holds e.0 e.1 in
     let due = c.requires.due in
-    let at : u ≡ e.0.looks = due.2.0 ∙ ap (λ (h : HoldView). h.looks) (same_hold due.0 e.0 (sym due.1 ∙ e.1)) in
+    let at : u ≡ e.0.looks = due.2.0 ∙ ap (λ (h : HoldView). h.looks) (same_Some due.0 e.0 (sym due.1 ∙ e.1)) in
     remembers_hold w _ _ (after_take (call_by u t.0) e.0) (ap (in_hold (after_take (call_by u t.0))) e.1) (c.push_reserved.ensures.items ∙ ap (λ l. l ++ u ∷ []) m.0) m.1
     (subst (λ (n : ℕ). Owes (after_take (call_by n t.0) e.0)) (sym at) (owes_taken e.0 t.0 e.2 m.2)))
-    (looks_after c.args.self.now.setting.workers (after_take (call_by u t.0)) old.me.0.own.hold e.0 e.1 (let due = c.requires.due in let at = ap (λ (h : HoldView). h.looks) (same_hold due.0 e.0 (sym due.1 ∙ e.1)) in omega (arith, at, due.2.0, due.2.1))) c.requires.pass
+    (looks_after c.args.self.now.setting.workers (after_take (call_by u t.0)) old.me.0.own.hold e.0 e.1 (let due = c.requires.due in let at = ap (λ (h : HoldView). h.looks) (same_Some due.0 e.0 (sym due.1 ∙ e.1)) in omega (arith, at, due.2.0, due.2.1))) c.requires.pass
 
 pub push_reserved-requires : goal.push_reserved-requires
 push_reserved-requires c =

@@ -1,8 +1,0 @@
--- Small facts on lists.
-use Rattle.std.proofs.Common.{List, [], ◌∷◌, ◌++◌}
-use Rattle.std.specs.List.{AllByRecursion}
-
-pub all_more : {X : Type 0} (P : X → Type 0) (xs : List X) (y : X) → AllByRecursion P xs → P y
-    → AllByRecursion P (xs ++ y ∷ [])
-all_more P [] y all one = (one, tt)
-all_more P (x ∷ xs) y all one = (all.0, all_more P xs y all.1 one)

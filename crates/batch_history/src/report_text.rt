@@ -62,9 +62,7 @@ fn push_entry(
     push_number(text, " leaf ", entry.leaf)?;
     text.push_str(" ")?;
     push_op(text, names, entry.op)?;
-    text.push_str(" -> ")?;
-    push_reply(text, entry.reply)?;
-    text.push_str("\n")
+    push_reply(text, entry.reply)
 }
 
 fn push_batch(

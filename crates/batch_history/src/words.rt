@@ -1,5 +1,5 @@
 //! Appending words and numbers to a text.
-ghost use Rattle.std.specs.Prelude.{◌≡◌, ◌≤◌, ◌++◌, OnOk, length, map, string_bytes};
+ghost use Rattle.std.specs.Prelude.{◌≡◌, ◌≤◌, ◌++◌, OnOk, codes, length, map, string_bytes};
 ghost use Rattle.job_names.specs.Names.{AreSpelled, spelling};
 ghost use Rattle.seq_objects.specs.Objects.{number_of};
 ghost use Rattle.seq_objects.specs.Words.{op_words, argument_words, reply_words};
@@ -9,6 +9,15 @@ use job_names::Name;
 use seq_objects::{Op, Reply};
 use sp_order::push_call;
 use std::alloc::AllocError;
+
+/// Appends the number in decimal.
+#[inline(always)]
+fn push_decimal<I: Integer>(text: &mut String, number: I) -> Result<(), AllocError>
+    ensures { OnOk result (string_bytes text.new ≡ string_bytes text.old ++ I.text number) }
+{
+    let mut buffer = Buffer::new();
+    text.push_str(buffer.format(number))
+}
 
 /// Appends `words` and then the number in decimal.
 #[inline(always)]
@@ -20,9 +29,8 @@ pub(crate) fn push_number<I: Integer>(
     ensures { OnOk result
         (string_bytes text.new ≡ string_bytes text.old ++ (words.now ++ I.text number)) }
 {
-    let mut buffer = Buffer::new();
     text.push_str(words)?;
-    text.push_str(buffer.format(number))
+    push_decimal(text, number)
 }
 
 /// Appends the argument of an operation, if it takes one.
@@ -36,7 +44,7 @@ fn push_argument(text: &mut String, op: Op) -> Result<(), AllocError>
         | Op::TreeRemove(_, argument)
         | Op::TreeFind(_, argument)
         | Op::TreeNext(_, argument)
-        | Op::PqInsert(_, argument) => push_number(text, "", argument),
+        | Op::PqInsert(_, argument) => push_decimal(text, argument),
         Op::Pop(_) | Op::PqTake(_) => Ok(()),
     }
 }
@@ -52,15 +60,19 @@ pub(crate) fn push_op(text: &mut String, names: &[Name], op: Op) -> Result<(), A
     push_argument(text, op)
 }
 
-/// Appends the words of a reply.
+/// Appends the end of an entry's line: an arrow, the words of the reply, and a line feed.
 pub(crate) fn push_reply(text: &mut String, reply: Reply) -> Result<(), AllocError>
-    ensures { OnOk result (string_bytes text.new ≡ string_bytes text.old ++ reply_words reply) }
+    ensures { OnOk result
+        (string_bytes text.new ≡ string_bytes text.old ++ (codes " -> " ++ (reply_words reply ++ codes "\n"))) }
 {
     match reply {
-        Reply::Number(number) => push_number(text, "", number),
-        Reply::Unit => text.push_str("ok"),
-        Reply::Empty => text.push_str("empty"),
-        Reply::Yes => text.push_str("yes"),
-        Reply::No => text.push_str("no"),
+        Reply::Number(number) => {
+            push_number(text, " -> ", number)?;
+            text.push_str("\n")
+        }
+        Reply::Unit => text.push_str(" -> ok\n"),
+        Reply::Empty => text.push_str(" -> empty\n"),
+        Reply::Yes => text.push_str(" -> yes\n"),
+        Reply::No => text.push_str(" -> no\n"),
     }
 }

@@ -108,19 +108,8 @@ impl CoreTable {
         let leaf_total = self.leaf_total();
         let layout = self.layout();
         let rows = Vec::with_capacity(alloc, leaf_total as usize)?;
-        let CoreTable {
-            table,
-            setting,
-            nodes: _,
-        } = self;
-        let Pass {
-            seat,
-            worker: _,
-            task: _,
-            call: _,
-            owed: _,
-            published: _,
-        } = pass;
+        let CoreTable { table, setting, .. } = self;
+        let Pass { seat, .. } = pass;
         let mut closed = table.close_with(seat);
         let rows = read_rows(&closed, &setting.job, layout, leaf_total, rows);
         let at = layout.batch_count();

@@ -98,7 +98,7 @@ impl CoreTable {
             × ((job_in self.now).plan.kind n ≡ Some (LeafOf leaf)) × ((job_in self.now).source leaf ≡ Some result) }
     {
         self.laws_hold();
-        let Task::Started { node, start: _ } = pass.task else {
+        let Task::Started { node, .. } = pass.task else {
             unreachable!()
         };
         let Kind::LeafNode(leaf) = self.setting.job.kind(node) else {
@@ -118,11 +118,7 @@ impl CoreTable {
         ensures { (event : Event) × (next_in self.now (pass_view pass.now) ≡ Some (acts.Finish result event)) }
     {
         match pass.task {
-            Task::Ended {
-                node,
-                start: _,
-                end: _,
-            } => node,
+            Task::Ended { node, .. } => node,
             Task::Handed(parent) => parent,
             Task::Whole(node) => {
                 let Move::FinishParent(parent) = self.setting.job.after(node) else {

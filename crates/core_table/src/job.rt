@@ -43,11 +43,7 @@ fn done_word(worker: u32, task: Task) -> u64
     ensures { result ≡ progress_code (progress_after worker task) }
 {
     match task {
-        Task::Ended {
-            node: _,
-            start,
-            end,
-        } => RanLeaf { worker, start, end }.encode(),
+        Task::Ended { start, end, .. } => RanLeaf { worker, start, end }.encode(),
         _ => DONE,
     }
 }

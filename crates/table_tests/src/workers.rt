@@ -65,47 +65,25 @@ fn make_act<G: Pause, R: Wait>(
     ensures free { IfOk result (λ _. (desk_view me.new.desk).posted ≡ []) }
 {
     match act {
-        Next::Start { node: _, leaf } => {
+        Next::Start { leaf, .. } => {
             crew.table.tick(&mut me.pass);
             crew.pause.at(Point::LeafStart(leaf), me.hand.worker());
         }
-        Next::End { node: _, start: _ } => {
+        Next::End { .. } => {
             crew.table.tick(&mut me.pass);
         }
-        Next::Open {
-            node: _,
-            task: _,
-            event: _,
-        } => {
+        Next::Open { .. } => {
             crew.table.open_node(&mut me.pass);
         }
-        Next::Spin {
-            node: _,
-            start: _,
-            steps,
-        } => crew.table.keep(&mut me.pass, u64::from(spin(steps))),
-        Next::Call {
-            node: _,
-            start: _,
-            leaf,
-            op: _,
-        } => {
+        Next::Spin { steps, .. } => crew.table.keep(&mut me.pass, u64::from(spin(steps))),
+        Next::Call { leaf, .. } => {
             let told = ask_twice(&crew.table, &mut me.pass, leaf);
             let called = call(rt, alloc, crew, me, leaf)?;
             made.push(Made { leaf, told, called })?;
         }
-        Next::Got {
-            node: _,
-            start: _,
-            reply,
-        } => crew.table.keep(&mut me.pass, value(reply)),
-        Next::Finish { node: _, event: _ } => crew.table.finish(&mut me.pass),
-        Next::Arrive {
-            parent: _,
-            left: _,
-            right: _,
-            side: _,
-        } => {
+        Next::Got { reply, .. } => crew.table.keep(&mut me.pass, value(reply)),
+        Next::Finish { .. } => crew.table.finish(&mut me.pass),
+        Next::Arrive { .. } => {
             crew.table.arrive(&mut me.pass);
         }
     }

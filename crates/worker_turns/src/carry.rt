@@ -38,48 +38,26 @@ fn make_act<G: Pause, R: Wait>(
     ensures stopped { IfErr result (λ stop. IsStop stop (pass_view me.old.pass) (pass_view me.new.pass)) }
 {
     match act {
-        Next::Start { node: _, leaf } => {
+        Next::Start { leaf, .. } => {
             crew.table.tick(&mut me.pass);
             crew.pause.at(Point::LeafStart(leaf), me.hand.worker());
         }
-        Next::End { node: _, start: _ } => {
+        Next::End { .. } => {
             crew.table.tick(&mut me.pass);
         }
-        Next::Open {
-            node: _,
-            task: _,
-            event: _,
-        } => {
+        Next::Open { .. } => {
             let node = crew.table.open_node(&mut me.pass);
             if crew.decks.push_core(&mut me.hand, node).is_err() {
                 return Err(Stop::Memory);
             }
         }
-        Next::Spin {
-            node: _,
-            start: _,
-            steps,
-        } => crew.table.keep(&mut me.pass, u64::from(spin(steps))),
-        Next::Call {
-            node: _,
-            start: _,
-            leaf,
-            op: _,
-        } => {
+        Next::Spin { steps, .. } => crew.table.keep(&mut me.pass, u64::from(spin(steps))),
+        Next::Call { leaf, .. } => {
             call(rt, alloc, crew, me, leaf)?;
         }
-        Next::Got {
-            node: _,
-            start: _,
-            reply,
-        } => crew.table.keep(&mut me.pass, value(reply)),
-        Next::Finish { node: _, event: _ } => crew.table.finish(&mut me.pass),
-        Next::Arrive {
-            parent: _,
-            left: _,
-            right: _,
-            side: _,
-        } => {
+        Next::Got { reply, .. } => crew.table.keep(&mut me.pass, value(reply)),
+        Next::Finish { .. } => crew.table.finish(&mut me.pass),
+        Next::Arrive { .. } => {
             crew.table.arrive(&mut me.pass);
         }
     }

@@ -14,6 +14,7 @@ mod kind;
 pub mod laws;
 mod merge;
 pub mod opened;
+mod opening;
 mod order;
 mod outs;
 pub mod piece;

@@ -1,6 +1,6 @@
-//! The pieces of the four rows in one list.
-ghost use Rattle.std.specs.Prelude.{◌≤◌, length, IfOk};
-ghost use Rattle.launch_batch.specs.Code.Rows.{AreInRows};
+//! The pieces of the four rows, apart by kind and in one list.
+ghost use Rattle.std.specs.Prelude.{IfOk};
+ghost use Rattle.launch_batch.specs.Code.Rows.{FitInRows, AreInRows};
 
 use crate::piece::PieceIn;
 use crate::row::place;
@@ -11,20 +11,26 @@ use batched_tree::{Piece as TreePiece, TreeSet};
 use object_rows::RowList;
 use std::alloc::{AllocError, Global};
 
+/// The pieces of a batch by kind, each kind's by place.
+#[derive(Drop)]
+pub(crate) struct Rows {
+    pub(crate) counter: RowList<CounterPiece>,
+    pub(crate) stack: RowList<StackPiece>,
+    pub(crate) tree: RowList<TreePiece>,
+    pub(crate) queue: RowList<QueuePiece>,
+}
+
 /// The pieces of the four kinds, in ascending order of place.
-pub(crate) fn pieces_of(
-    alloc: Global,
-    counter: RowList<CounterPiece>,
-    stack: RowList<StackPiece>,
-    tree: RowList<TreePiece>,
-    queue: RowList<QueuePiece>,
-) -> Result<Vec<PieceIn>, AllocError>
-    requires counter { length counter.items ≤ 16 }
-    requires stack { length stack.items ≤ 16 }
-    requires tree { length tree.items ≤ 16 }
-    requires queue { length queue.items ≤ 8 }
-    ensures { IfOk result (λ v. AreInRows v.items counter.items stack.items tree.items queue.items) }
+pub(crate) fn pieces_of(alloc: Global, rows: Rows) -> Result<Vec<PieceIn>, AllocError>
+    requires { FitInRows rows }
+    ensures { IfOk result (λ v. AreInRows v.items rows) }
 {
+    let Rows {
+        counter,
+        stack,
+        tree,
+        queue,
+    } = rows;
     let count = counter.len() + stack.len() + tree.len() + queue.len();
     let mut pieces = Vec::with_capacity(alloc, count)?;
     place::<Counter>(&mut pieces, counter, 0)?;

@@ -1,4 +1,4 @@
-//! The shop, and the opening of a batch.
+//! The shop, and the opening of a batch in pieces.
 ghost use Rattle.std.specs.Prelude.{◌≡◌, ◌<◌, ◌≤◌, [], length, map, List, IfOk};
 ghost use Rattle.std.specs.List.{AllByRecursion};
 ghost use Rattle.seq_objects.specs.declared.call.Call.{Call as CallOf};
@@ -11,16 +11,10 @@ ghost use Rattle.launch_batch.specs.Places.{places, IsInOwnRow};
 ghost use Rattle.launch_batch.specs.Contexts.{IsContextOf};
 
 use crate::opened::Opened;
-use crate::order::in_batch_order;
 use crate::piece::PieceIn;
 use crate::pieces::pieces_of;
-use crate::row::open;
 use crate::structures::Structures;
 use batch_history::History;
-use batched_counter::Counter;
-use batched_pq::Queue;
-use batched_stack::Stack;
-use batched_tree::TreeSet;
 use object_rows::Row;
 use seq_objects::Call;
 use std::alloc::{AllocError, Global};
@@ -98,23 +92,8 @@ impl Shop {
         ensures context { IfOk result (λ p. IsContextOf p.0
             (record { before = self; calls = calls.items; ins = p.1.items })) }
     {
-        let Shop {
-            mut structures,
-            history,
-        } = self;
-        let calls = in_batch_order(alloc, calls)?;
-        let all = calls.as_slice();
-        let inner = &mut *structures;
-        let counter = open::<Counter>(alloc, &mut inner.counter, all)?;
-        let stack = open::<Stack>(alloc, &mut inner.stack, all)?;
-        let tree = open::<TreeSet>(alloc, &mut inner.tree, all)?;
-        let queue = open::<Queue>(alloc, &mut inner.queue, all)?;
-        let pieces = pieces_of(alloc, counter, stack, tree, queue)?;
-        let opened = Opened {
-            structures,
-            history,
-            calls,
-        };
+        let (opened, rows) = self.open(alloc, calls)?;
+        let pieces = pieces_of(alloc, rows)?;
         Ok((opened, pieces))
     }
 }

@@ -62,16 +62,22 @@ impl<X: Drop> RowList<X> {
         }
     }
 
+    /// A row for each of the first members, and these rows behind them.
+    ///
+    /// Memory: none.
+    pub(crate) fn of_parts(ones: Vec<X>, others: Vec<Members<X>>) -> RowList<X>
+        ensures { result.items ≡ map OneOf ones.items ++ others.items }
+    {
+        RowList { ones, others }
+    }
+
     /// A row for each of these members.
     ///
     /// Memory: none.
     pub(crate) fn of_ones(alloc: Global, ones: Vec<X>) -> RowList<X>
         ensures { result.items ≡ map OneOf ones.items }
     {
-        RowList {
-            ones,
-            others: Vec::new(alloc),
-        }
+        RowList::of_parts(ones, Vec::new(alloc))
     }
 
     /// These rows.
@@ -80,10 +86,7 @@ impl<X: Drop> RowList<X> {
     pub(crate) fn of_rows(alloc: Global, others: Vec<Members<X>>) -> RowList<X>
         ensures { result.items ≡ others.items }
     {
-        RowList {
-            ones: Vec::new(alloc),
-            others,
-        }
+        RowList::of_parts(Vec::new(alloc), others)
     }
 
     /// How many rows there are.

@@ -15,7 +15,6 @@ use Rattle.launch_batch.specs.declared.structures.Structures.{Structures}
 use Rattle.launch_batch.specs.Contexts.{IsContextOf}
 use Rattle.launch_batch.specs.Code.Outs.{HaveMet}
 use Rattle.launch_batch.specs.Code.Committing.{HaveServed}
-use Rattle.launch_batch.proofs.PieceLemmas.Meeting.{EachMeets, each_meets}
 
 -- what the closing of a row promises
 abbrev Closes : {T R In Out : Type 0} → ObjectKind → (T → Objects) → (R → BatchContext T In → Type 0) → (In → Out → Type 0) → List Call → Row T R → Row T R → List (Members Out) → List Reply → Type 0
@@ -23,10 +22,6 @@ Closes {T} {R} {In} {Out} kind content is_context_of meets calls was now outs re
     (o : RowContext In) → IsRowContextOf content is_context_of was o → o.calls ≡ calls_of kind calls → AllMeet (MembersMeet meets) o.ins outs → HasServed content now o.before o.calls replies
 
 module _ (opened : Opened) (o : BatchContext (List (List Entry)) PieceIn) (r : IsContextOf opened o) (outs : Outs) (met : HaveMet o.ins outs) where
-  -- the outs of each kind meet its pieces
-  pub own_meet : EachMeets o.ins outs.counter.items outs.stack.items outs.tree.items outs.queue.items
-  own_meet = rw (met.each.counter, met.each.stack, met.each.tree, met.each.queue) (each_meets o.ins met.outs met.met)
-
   pub have_served : (was now : Structures) (replies : ReplyCursors) (all : List Call) → was ≡ opened.structures.value → all ≡ opened.calls.items
       → Closes Counter of_counter IsCounterContext CounterMeets all was.counter now.counter outs.counter.items replies.counter
       → Closes Stack (λ stack. of_stack stack.items) IsStackContext StackMeets all was.stack now.stack outs.stack.items replies.stack
@@ -36,8 +31,8 @@ module _ (opened : Opened) (o : BatchContext (List (List Entry)) PieceIn) (r : I
   have_served was now replies all same calls counter stack tree queue = subst (λ book. HaveServed now book opened.calls.items replies o.calls) (sym r.book) record {
     given = r.given;
     room = r.room;
-    counter = counter (part Counter counter_piece o.before opened.calls.items o.ins) (rw same r.counter) (ap (calls_of Counter) (sym calls)) own_meet.counter;
-    stack = stack (part Stack stack_piece o.before opened.calls.items o.ins) (rw same r.stack) (ap (calls_of Stack) (sym calls)) own_meet.stack;
-    tree = tree (part Tree tree_piece o.before opened.calls.items o.ins) (rw same r.tree) (ap (calls_of Tree) (sym calls)) own_meet.tree;
-    queue = queue (part Queue queue_piece o.before opened.calls.items o.ins) (rw same r.queue) (ap (calls_of Queue) (sym calls)) own_meet.queue;
+    counter = counter (part Counter counter_piece o.before opened.calls.items o.ins) (rw same r.counter) (ap (calls_of Counter) (sym calls)) met.counter;
+    stack = stack (part Stack stack_piece o.before opened.calls.items o.ins) (rw same r.stack) (ap (calls_of Stack) (sym calls)) met.stack;
+    tree = tree (part Tree tree_piece o.before opened.calls.items o.ins) (rw same r.tree) (ap (calls_of Tree) (sym calls)) met.tree;
+    queue = queue (part Queue queue_piece o.before opened.calls.items o.ins) (rw same r.queue) (ap (calls_of Queue) (sym calls)) met.queue;
   }

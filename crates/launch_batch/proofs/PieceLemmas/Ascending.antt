@@ -40,9 +40,10 @@ row_of_four a b c d few_a few_b few_c few_d =
 pub length_of_four : (a b c d : ℕ) → length (four_rows a b c d) ≡ a + b + c + d
 length_of_four a b c d = simp (length-append, length-range_with_len)
 
--- there is a piece if some structure has calls, and there are at most 56
-pub some_and_few : (n p q r s a b c d : ℕ) → n ≡ a + b + c + d → a ≤ 16 → b ≤ 16 → c ≤ 16 → d ≤ 8
-    → (0 < p → 1 ≤ a) → (0 < q → 1 ≤ b) → (0 < r → 1 ≤ c) → (0 < s → 1 ≤ d) → 0 < p + q + r + s → (1 ≤ n) × (n ≤ 56)
-some_and_few n p q r s a b c d is few_a few_b few_c few_d i j k l some =
-    let one : 1 ≤ a + b + c + d = grind arith in
-    (omega (arith, one, is), omega (arith, few_a, few_b, few_c, few_d, is))
+-- there is a piece if some structure has calls
+pub some_rows : (p q r s a b c d : ℕ) → (0 < p → 1 ≤ a) → (0 < q → 1 ≤ b) → (0 < r → 1 ≤ c) → (0 < s → 1 ≤ d) → 0 < p + q + r + s → 0 < a + b + c + d
+some_rows p q r s a b c d i j k l some = grind arith
+
+-- there are at most 56 pieces
+pub some_and_few : (n a b c d : ℕ) → n ≡ a + b + c + d → 0 < a + b + c + d → a ≤ 16 → b ≤ 16 → c ≤ 16 → d ≤ 8 → (1 ≤ n) × (n ≤ 56)
+some_and_few n a b c d is some few_a few_b few_c few_d = (omega (arith, some, is), omega (arith, few_a, few_b, few_c, few_d, is))

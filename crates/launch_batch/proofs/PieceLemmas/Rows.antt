@@ -4,41 +4,55 @@ use Rattle.std.proofs.lemmas.List.{map-append}
 use Rattle.std.proofs.lemmas.List.Elements.{filter_map-append}
 use Rattle.launch_batch.proofs.Words.{AllByRecursion, Members, CounterPiece, StackPiece, TreePiece, QueuePiece, PieceIn, place_of, placed, counter_piece, stack_piece, tree_piece, queue_piece}
 use Rattle.launch_batch.specs.declared.piece.PieceIn.TheVariants as piece
+use Rattle.launch_batch.specs.declared.pieces.Rows.{Rows}
 use Rattle.launch_batch.specs.Places.{IsInOwnRow}
-use Rattle.launch_batch.specs.Code.Rows.{four_rows, AreInRows}
+use Rattle.launch_batch.specs.Code.Rows.{four_rows, FitInRows, AreApart, AreInRows}
 use Rattle.seq_objects.proofs.Elements.{each_append, each_unmapped}
 use Rattle.launch_batch.proofs.PieceLemmas.Placing.{each_placed, places_placed, all_own, none_own}
 use Rattle.launch_batch.proofs.PieceLemmas.Ascending.{IsRow, row_of_four}
 
-module _ (counter : List (Members CounterPiece)) (stack : List (Members StackPiece)) (tree : List (Members TreePiece)) (queue : List (Members QueuePiece)) where
-  abbrev all : List PieceIn
-  all = placed piece.Counter 0 counter ++ placed piece.Stack 16 stack ++ placed piece.Tree 32 tree ++ placed piece.Queue 48 queue
+module _ (rows : Rows) where
+  abbrev counter : List (Members CounterPiece)
+  counter = rows.counter.items
+
+  abbrev stack : List (Members StackPiece)
+  stack = rows.stack.items
+
+  abbrev tree : List (Members TreePiece)
+  tree = rows.tree.items
+
+  abbrev queue : List (Members QueuePiece)
+  queue = rows.queue.items
+
+  -- the pieces of the four kinds, kind by kind
+  abbrev pub all_of : List PieceIn
+  all_of = placed piece.Counter 0 counter ++ placed piece.Stack 16 stack ++ placed piece.Tree 32 tree ++ placed piece.Queue 48 queue
 
   own_of_all : {X : Type 0} (own : PieceIn → Option X) (p q r s : List X) → filter_map own (placed piece.Counter 0 counter) ≡ p → filter_map own (placed piece.Stack 16 stack) ≡ q
-      → filter_map own (placed piece.Tree 32 tree) ≡ r → filter_map own (placed piece.Queue 48 queue) ≡ s → filter_map own all ≡ p ++ (q ++ (r ++ s))
+      → filter_map own (placed piece.Tree 32 tree) ≡ r → filter_map own (placed piece.Queue 48 queue) ≡ s → filter_map own all_of ≡ p ++ (q ++ (r ++ s))
   own_of_all own p q r s h i j k = simp (filter_map-append, append_assoc, h, i, j, k)
 
-  counter_are : filter_map counter_piece all ≡ counter
+  counter_are : filter_map counter_piece all_of ≡ counter
   counter_are = own_of_all counter_piece counter [] [] []
       (all_own counter_piece piece.Counter (λ n x rest. refl) 0 counter) (none_own counter_piece piece.Stack (λ n x rest. refl) 16 stack)
       (none_own counter_piece piece.Tree (λ n x rest. refl) 32 tree) (none_own counter_piece piece.Queue (λ n x rest. refl) 48 queue) ∙ append-nil counter
 
-  stack_are : filter_map stack_piece all ≡ stack
+  stack_are : filter_map stack_piece all_of ≡ stack
   stack_are = own_of_all stack_piece [] stack [] []
       (none_own stack_piece piece.Counter (λ n x rest. refl) 0 counter) (all_own stack_piece piece.Stack (λ n x rest. refl) 16 stack)
       (none_own stack_piece piece.Tree (λ n x rest. refl) 32 tree) (none_own stack_piece piece.Queue (λ n x rest. refl) 48 queue) ∙ append-nil stack
 
-  tree_are : filter_map tree_piece all ≡ tree
+  tree_are : filter_map tree_piece all_of ≡ tree
   tree_are = own_of_all tree_piece [] [] tree []
       (none_own tree_piece piece.Counter (λ n x rest. refl) 0 counter) (none_own tree_piece piece.Stack (λ n x rest. refl) 16 stack)
       (all_own tree_piece piece.Tree (λ n x rest. refl) 32 tree) (none_own tree_piece piece.Queue (λ n x rest. refl) 48 queue) ∙ append-nil tree
 
-  queue_are : filter_map queue_piece all ≡ queue
+  queue_are : filter_map queue_piece all_of ≡ queue
   queue_are = own_of_all queue_piece [] [] [] queue
       (none_own queue_piece piece.Counter (λ n x rest. refl) 0 counter) (none_own queue_piece piece.Stack (λ n x rest. refl) 16 stack)
       (none_own queue_piece piece.Tree (λ n x rest. refl) 32 tree) (all_own queue_piece piece.Queue (λ n x rest. refl) 48 queue)
 
-  places_are : map place_of all ≡ four_rows (length counter) (length stack) (length tree) (length queue)
+  places_are : map place_of all_of ≡ four_rows (length counter) (length stack) (length tree) (length queue)
   places_are = simp (
     map-append,
     places_placed piece.Counter 0 counter (λ n x. refl),
@@ -47,7 +61,7 @@ module _ (counter : List (Members CounterPiece)) (stack : List (Members StackPie
     places_placed piece.Queue 48 queue (λ n x. refl),
   )
 
-  rows_are_own : length counter ≤ 16 → length stack ≤ 16 → length tree ≤ 16 → length queue ≤ 8 → AllByRecursion IsInOwnRow all
+  rows_are_own : length counter ≤ 16 → length stack ≤ 16 → length tree ≤ 16 → length queue ≤ 8 → AllByRecursion IsInOwnRow all_of
   rows_are_own few_counter few_stack few_tree few_queue =
       each_append IsInOwnRow _ (placed piece.Queue 48 queue)
       (each_append IsInOwnRow _ (placed piece.Tree 32 tree)
@@ -57,17 +71,17 @@ module _ (counter : List (Members CounterPiece)) (stack : List (Members StackPie
       (each_placed IsInOwnRow piece.Tree 32 tree (λ n x from below. (from, omega (arith, below, few_tree)))))
       (each_placed IsInOwnRow piece.Queue 48 queue (λ n x from below. (from, omega (arith, below, few_queue))))
 
-  pub in_rows : (pieces : List PieceIn) → pieces ≡ all → length counter ≤ 16 → length stack ≤ 16 → length tree ≤ 16 → length queue ≤ 8
-      → AreInRows pieces counter stack tree queue
-  in_rows pieces are few_counter few_stack few_tree few_queue =
-      let row : IsRow 0 56 (map place_of all) = subst (IsRow 0 56) (sym places_are) (row_of_four _ _ _ _ few_counter few_stack few_tree few_queue) in
+  -- each kind's are its row
+  pub apart : AreApart all_of rows
+  apart = record { counter = counter_are; stack = stack_are; tree = tree_are; queue = queue_are }
+
+  pub in_rows : (pieces : List PieceIn) → pieces ≡ all_of → FitInRows rows → AreInRows pieces rows
+  in_rows pieces are fit =
+      let row : IsRow 0 56 (map place_of all_of) = subst (IsRow 0 56) (sym places_are) (row_of_four _ _ _ _ fit.counter fit.stack fit.tree fit.queue) in
       rw are record {
-        counter = counter_are;
-        stack = stack_are;
-        tree = tree_are;
-        queue = queue_are;
+        apart = apart;
         places = places_are;
-        rows = rows_are_own few_counter few_stack few_tree few_queue;
-        below = each_unmapped place_of (λ k. k < 56) all row.below;
+        own = rows_are_own fit.counter fit.stack fit.tree fit.queue;
+        below = each_unmapped place_of (λ k. k < 56) all_of row.below;
         ascend = row.ascend;
       }

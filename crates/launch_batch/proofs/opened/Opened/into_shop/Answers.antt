@@ -1,31 +1,31 @@
 use Rattle.std.proofs.Common.{refl, sym}
 use Rattle.launch_batch.proofs.Words.{Counter, Stack, Tree, Queue, counter_piece, stack_piece, tree_piece, queue_piece, part}
-use Rattle.launch_batch.proofs.BatchLemmas.Closing.{own_meet, have_served}
+use Rattle.launch_batch.proofs.BatchLemmas.Closing.{have_served}
 use Rattle.launch_batch.proofs.opened.Opened.into_shop.Goals as goal
 
 pub close-requires-clause-met : goal.close-requires-clause-met
 close-requires-clause-met c = λ lifetimes.
     let r = c.requires.1 in
     rw (c.deref_mut-inner.ensures.value, c.as_slice-all.ensures.value)
-    (part Counter counter_piece c.requires.0.before c.args.self.calls.items c.requires.0.ins, r.counter, refl, (own_meet c.args.self c.requires.0 r c.args.outs c.requires.2).counter)
+    (part Counter counter_piece c.requires.0.before c.args.self.calls.items c.requires.0.ins, r.counter, refl, c.requires.2.counter)
 
 pub close-requires-2-clause-met : goal.close-requires-2-clause-met
 close-requires-2-clause-met c = λ lifetimes.
     let r = c.requires.1 in
     rw (c.deref_mut-inner.ensures.value, c.as_slice-all.ensures.value)
-    (part Stack stack_piece c.requires.0.before c.args.self.calls.items c.requires.0.ins, r.stack, refl, (own_meet c.args.self c.requires.0 r c.args.outs c.requires.2).stack)
+    (part Stack stack_piece c.requires.0.before c.args.self.calls.items c.requires.0.ins, r.stack, refl, c.requires.2.stack)
 
 pub close-requires-3-clause-met : goal.close-requires-3-clause-met
 close-requires-3-clause-met c = λ lifetimes.
     let r = c.requires.1 in
     rw (c.deref_mut-inner.ensures.value, c.as_slice-all.ensures.value)
-    (part Tree tree_piece c.requires.0.before c.args.self.calls.items c.requires.0.ins, r.tree, refl, (own_meet c.args.self c.requires.0 r c.args.outs c.requires.2).tree)
+    (part Tree tree_piece c.requires.0.before c.args.self.calls.items c.requires.0.ins, r.tree, refl, c.requires.2.tree)
 
 pub close-requires-4-clause-met : goal.close-requires-4-clause-met
 close-requires-4-clause-met c = λ lifetimes.
     let r = c.requires.1 in
     rw (c.deref_mut-inner.ensures.value, c.as_slice-all.ensures.value)
-    (part Queue queue_piece c.requires.0.before c.args.self.calls.items c.requires.0.ins, r.queue, refl, (own_meet c.args.self c.requires.0 r c.args.outs c.requires.2).queue)
+    (part Queue queue_piece c.requires.0.before c.args.self.calls.items c.requires.0.ins, r.queue, refl, c.requires.2.queue)
 
 pub commit-requires : goal.commit-requires
 commit-requires c =

@@ -218,47 +218,38 @@ pub fn remove_in(tree: &mut Tree, key: u32) -> Option<u32>
         Tree::Empty => None,
         Tree::Leaf(leaf) => remove_in_leaf(leaf, key),
         Tree::Two(node) => {
-            if key < node.low.key {
-                let was = remove_in(&mut node.first, key);
-                node.size -= taken(was);
-                rebalance(tree);
-                was
+            let was = if key < node.low.key {
+                remove_in(&mut node.first, key)
             } else if node.low.key < key {
-                let was = remove_in(&mut node.second, key);
-                node.size -= taken(was);
-                rebalance(tree);
-                was
+                remove_in(&mut node.second, key)
             } else {
                 let was = node.low.val;
                 remove_low(tree);
-                Some(was)
-            }
+                return Some(was);
+            };
+            node.size -= taken(was);
+            rebalance(tree);
+            was
         }
         Tree::Three(node) => {
-            if key < node.low.key {
-                let was = remove_in(&mut node.first, key);
-                node.size -= taken(was);
-                rebalance(tree);
-                was
+            let was = if key < node.low.key {
+                remove_in(&mut node.first, key)
             } else if key == node.low.key {
                 let was = node.low.val;
                 remove_low(tree);
-                Some(was)
+                return Some(was);
             } else if key < node.high.key {
-                let was = remove_in(&mut node.second, key);
-                node.size -= taken(was);
-                rebalance(tree);
-                was
+                remove_in(&mut node.second, key)
             } else if key == node.high.key {
                 let was = node.high.val;
                 remove_high(tree);
-                Some(was)
+                return Some(was);
             } else {
-                let was = remove_in(&mut node.third, key);
-                node.size -= taken(was);
-                rebalance(tree);
-                was
-            }
+                remove_in(&mut node.third, key)
+            };
+            node.size -= taken(was);
+            rebalance(tree);
+            was
         }
         Tree::Underfull(_) => unreachable!(),
     }

@@ -1,8 +1,7 @@
 //! The scheduler's core: a job, its workers, and the turns that run it.
-ghost use Rattle.std.specs.Prelude.{◌≡◌, ◌<◌, ◌≤◌, ℕ, IfOk, IfErr, IsSome, IfSome, MatchOption, Some, None, true, false, IsTrue, ◌↔◌, map};
+ghost use Rattle.std.specs.Prelude.{◌≡◌, ◌<◌, ◌≤◌, ℕ, IfOk, IfErr, IsSome, IfSome, MatchOption, Some, None, true, false, IsTrue, map};
 ghost use Rattle.seq_objects.specs.Spin.{spin_of};
 ghost use Rattle.core_model.specs.State.{opening_core};
-ghost use Rattle.core_model.specs.Tasks.{is_done as node_done};
 ghost use Rattle.core_model.specs.Choice.{choice};
 ghost use Rattle.sp_order.specs.Jobs.{job_tree};
 ghost use Rattle.sp_order.specs.Precedence.{leaves};
@@ -10,7 +9,6 @@ ghost use Rattle.batch_history.specs.Lawful.{Lawful};
 ghost use Rattle.core_model.specs.Invariant.{Invariant};
 ghost use Rattle.core_model.specs.LeafSources.{HasSources};
 ghost use Rattle.core_model.specs.Reports.{IsReportOf, IsRowOf};
-ghost use Rattle.sp_order.specs.Preorder.{nodes_of};
 ghost use Rattle.std.specs.List.{AllByRecursion, range_with_len};
 ghost use Rattle.batcher_core.specs.Cores.{job_in, state_in, due_in, moved_if, turn_answer, is_over_in, IsTurnResult};
 ghost use Rattle.core_state.specs.Code.Representation.{RepInvariant};

@@ -1,5 +1,5 @@
 //! A run by turns in which some workers have stopped for good.
-ghost use Rattle.std.specs.Prelude.{◌≡◌, ◌<◌, ℕ, true, false, Some, IfOk, Contains, length};
+ghost use Rattle.std.specs.Prelude.{◌≡◌, ◌<◌, ℕ, true, false, IfOk, Contains, length};
 ghost use Rattle.std.specs.Option.{is_some};
 ghost use Rattle.core_model.specs.declared.task.Task.TheVariants.{Idle};
 ghost use Rattle.core_model.specs.State.{CoreState};

@@ -1,10 +1,8 @@
 //! The drawing of a report: its file is read, and its picture is made.
-ghost use Rattle.std.specs.Prelude.{◌≡◌, ◌≤◌, ◌^◌, ◌<◌, length, IfOk, IfErr, IsTrue, IsSome};
-ghost use Rattle.batch_history.specs.Book.{flat};
-ghost use Rattle.report_reader.specs.Texts.{HasNamedText};
+ghost use Rattle.std.specs.Prelude.{◌≡◌, ◌≤◌, ◌<◌, length, IfOk, IfErr, IsTrue, IsSome};
 ghost use Rattle.program_io.specs.Lines.{told_text};
-ghost use Rattle.batchview.specs.Outcomes.{IsPicture, Refuses, Pictures, HasNoReport};
-ghost use Rattle.batchview.specs.Code.{file_in, end_line, StopsDrawing};
+ghost use Rattle.batchview.specs.Outcomes.{IsPicture, Refuses, Pictures};
+ghost use Rattle.batchview.specs.Code.{end_line, StopsDrawing};
 
 use crate::status::{ViewRefusal, status_of};
 use crate::words::View;

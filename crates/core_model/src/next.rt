@@ -1,5 +1,5 @@
 //! The next act of a worker that has a task, by the task, the plan and the worker's call.
-ghost use Rattle.std.specs.Prelude.{◌≡◌, ◌<◌, ℕ, Some};
+ghost use Rattle.std.specs.Prelude.{◌≡◌, ◌<◌, Some};
 ghost use Rattle.core_model.specs.Next.{next_act, act_of_run, act_of_half, act_of_started, act_of_second, act_of_parent, act_of_arrive, act_of_whole, act_of_handed};
 ghost use Rattle.core_model.specs.Operations.{leaf_of as leaf_of_kind};
 ghost use Rattle.core_model.specs.Settings.{job_of, TaskIn};

@@ -1,5 +1,5 @@
 -- The refinement statement: each call is one event of the core or a stutter, on every table that meets the rule.
-use Rattle.std.specs.Prelude.{ℕ, ◌≡◌, ◌≢◌, ◌<◌, ◌≤◌, ◌+◌, ◌%◌, ◌^◌, true, false, eqb, Some, None, List, ◌∷◌, [], ◌++◌, length}
+use Rattle.std.specs.Prelude.{ℕ, ◌≡◌, ◌≢◌, ◌<◌, ◌≤◌, ◌+◌, ◌%◌, ◌^◌, true, false, eqb, Some, None, List, ◌∷◌, [], ◌++◌}
 use mathlib.Core.Option.{none}
 use prog.Atomic.{either}
 use Rattle.atomic_table.specs.Table.{step}
@@ -20,7 +20,6 @@ use Rattle.table_rule.specs.Batches.{IsLookDue, IsPublishDue, IsReleaseDue}
 use Rattle.table_rule.specs.Tasks.{TaskHere, progress_after, job_seen}
 use Rattle.table_rule.specs.DueActs.{IsKeepDue, IsPostDue}
 use Rattle.table_rule.specs.Plays as plays
-use Rattle.table_rule.specs.Plays.{SeatState}
 use Rattle.table_rule.specs.Steps.{StepRefines, MakesEvent, Stutters, TryMakes, ArrivalMakes, MakesLeave, SplitStutters}
 
 -- the view is one of worker k's pass at a table of this setting, after it has enrolled, with a task that such a pass

@@ -1,5 +1,5 @@
 //! The gate side: posting a call, winning the flag, taking, publishing and answering a batch, and leaving.
-ghost use Rattle.std.specs.Prelude.{List, ◌≡◌, ◌≢◌, ℕ, ◌+◌, ◌<◌, ◌≤◌, ◌^◌, ◌∷◌, [], true, false, None, Some, IfSome, IfNone, IfOk, IfErr, length};
+ghost use Rattle.std.specs.Prelude.{List, ◌≡◌, ◌≢◌, ℕ, ◌+◌, ◌<◌, ◌≤◌, true, false, None, Some, IfSome, IfNone, IfOk, IfErr};
 ghost use Rattle.batch_history.specs.declared.batch.Entry.{Entry};
 ghost use Rattle.table_rule.specs.CoreWords.{Started, Post as PostOf};
 ghost use Rattle.core_model.specs.Measure.{call_count};

@@ -1,6 +1,6 @@
 //! The job side (claim, tick, open, source value, keep, finish, arrive), and the calls on the root, batch count and
 //! stop word.
-ghost use Rattle.std.specs.Prelude.{◌≡◌, ◌≢◌, ℕ, ◌+◌, ◌%◌, ◌<◌, ◌≤◌, ◌∷◌, Some, IsTrue, IsFalse, IsNone};
+ghost use Rattle.std.specs.Prelude.{◌≡◌, ◌≢◌, ℕ, ◌+◌, ◌%◌, ◌<◌, Some, IsTrue, IsFalse, IsNone};
 ghost use Rattle.core_model.specs.declared.next.Next.TheVariants as acts;
 ghost use Rattle.core_model.specs.Events.{task_after as next_task};
 ghost use Rattle.table_rule.specs.CoreWords.{Event, Task as TaskOf, Idle, Run, Started, Kept, Ended, Handed, Start as StartOf, End as EndOf, ArriveFirst, ArriveSecond};

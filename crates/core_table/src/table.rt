@@ -1,5 +1,5 @@
 //! `CoreTable`, which all workers share, and `Pass`, which each worker owns.
-ghost use Rattle.std.specs.Prelude.{◌≡◌, ◌≢◌, ℕ, ◌+◌, ◌<◌, ◌≤◌, Some, length, vec_len, vec_capacity};
+ghost use Rattle.std.specs.Prelude.{◌≡◌, ◌+◌, ◌<◌, ◌≤◌, Some, length, vec_len, vec_capacity};
 ghost use Rattle.std.specs.Coded.{codes};
 ghost use Rattle.sp_order.specs.Jobs.{job_tree};
 ghost use Rattle.sp_order.specs.TreeEncoding.{coded_tree};

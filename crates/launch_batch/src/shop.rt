@@ -4,7 +4,6 @@ ghost use Rattle.std.specs.List.{AllByRecursion};
 ghost use Rattle.seq_objects.specs.declared.call.Call.{Call as CallOf};
 ghost use Rattle.seq_objects.specs.Orders.{StrictlyAscends};
 ghost use Rattle.seq_objects.specs.Batches.{AreInBatchOrder};
-ghost use Rattle.seq_objects.specs.Pieces.{BatchContext};
 ghost use Rattle.launch_batch.specs.Calls.{MayServe, ArePermutations};
 ghost use Rattle.launch_batch.specs.Pieces.{place_of};
 ghost use Rattle.launch_batch.specs.Places.{places, IsInOwnRow};

@@ -1,12 +1,9 @@
 //! Closes the structures that a batch has called.
-ghost use Rattle.std.specs.Prelude.{◌≡◌, ◌==◌, ◌<◌, ℕ, [], Some, if◌then◌else◌, List, length, IfOk};
+ghost use Rattle.std.specs.Prelude.{◌≡◌, ◌==◌, ◌<◌, Some, List, length, IfOk};
 ghost use Rattle.seq_objects.specs.Stores.{Store};
-ghost use Rattle.seq_objects.specs.Serial.{after_all, replies_to_all};
-ghost use Rattle.seq_objects.specs.Batches.{calls_at};
 ghost use Rattle.seq_objects.specs.Pieces.{AllMeet};
 ghost use Rattle.seq_objects.specs.declared.call.Call.{Call as CallOf};
 ghost use Rattle.object_rows.specs.Rows.{MembersMeet};
-ghost use Rattle.object_rows.specs.Contents.{structure_at};
 ghost use Rattle.object_rows.specs.Contexts.{IsOpenFor, RowContext, IsRowContextOf, HasServed};
 ghost use Rattle.object_rows.specs.Code.Closing.{ClosesOne};
 

@@ -1,5 +1,5 @@
 //! Runs the pieces of structures of one kind.
-ghost use Rattle.std.specs.Prelude.{◌≡◌, IfOk};
+ghost use Rattle.std.specs.Prelude.{IfOk};
 ghost use Rattle.seq_objects.specs.Pieces.{AllMeet};
 ghost use Rattle.object_rows.specs.Rows.{MembersMeet};
 

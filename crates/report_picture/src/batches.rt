@@ -1,5 +1,5 @@
 //! The batches below the lanes: calls side by side, under the bracket of their batch.
-ghost use Rattle.std.specs.Prelude.{◌≡◌, ◌++◌, ◌+◌, ◌*◌, ◌-◌, ◌<◌, ◌≤◌, ◌^◌, length, map, OnOk, IfOk, string_bytes};
+ghost use Rattle.std.specs.Prelude.{◌≡◌, ◌++◌, ◌+◌, ◌*◌, ◌-◌, ◌<◌, ◌≤◌, ◌^◌, length, map, OnOk};
 ghost use Rattle.job_names.specs.Names.{AreSpelled, spelling};
 ghost use Rattle.seq_objects.specs.Objects.{number_of};
 ghost use Rattle.seq_objects.specs.Words.{reply_words};

@@ -1,6 +1,5 @@
 //! What each worker does in each column of ticks.
-ghost use Rattle.std.specs.Prelude.{◌≡◌, ◌++◌, ◌+◌, ◌*◌, ◌-◌, ◌≤◌, ◌<◌, ◌^◌, OnOk};
-ghost use Rattle.report_picture.specs.Boxes.{lane_top};
+ghost use Rattle.std.specs.Prelude.{◌≡◌, ◌++◌, ◌+◌, ◌*◌, ◌-◌, ◌≤◌, ◌<◌, OnOk};
 ghost use Rattle.report_picture.specs.Columns.{column_left, height_in};
 ghost use Rattle.report_picture.specs.Code.Texts.{plain_text, title_text, parts_text, share_text, shares_text, edges_text, key_front, keys_text};
 

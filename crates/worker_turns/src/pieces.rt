@@ -1,7 +1,6 @@
 //! How a worker finds a piece, claims it and runs it.
 ghost use Rattle.std.specs.Prelude.{◌≡◌, ◌≢◌, ◌<◌, IfOk, IfErr, IfSome, IfNone};
 ghost use Rattle.piece_board.specs.Boards.{desk_view, IsDeskOf};
-ghost use Rattle.two_deques.specs.Hands.{held, workers_of, IsHandOf};
 ghost use Rattle.worker_crew.specs.declared.crew.Stop.TheVariants.{Memory};
 ghost use Rattle.worker_crew.specs.Workers.{me_seen, IsMeOf};
 ghost use Rattle.worker_turns.specs.Pieces.{spot_of, desk_after, piece_try, after_piece_try, IsOwnPiece, IsOtherPiece};

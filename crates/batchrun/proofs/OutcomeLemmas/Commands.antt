@@ -7,7 +7,7 @@ use Rattle.core_model.specs.Reports.{IsRunReport}
 use Rattle.job_lang.specs.Generator.{generated}
 use Rattle.batchrun.specs.Words.{step, run, gen}
 use Rattle.batchrun.specs.Outcomes.{PrintsRun, HasDriven, IsModelRun, Prints, FileCause, MadeCause, FailsPast, IsUnlessMemory}
-use Rattle.batchrun.specs.Commands.{PrintsMade, PrintsSummary, Driven, Owes}
+use Rattle.batchrun.specs.Commands.{PrintsMade, PrintsSummary, Owes}
 use Rattle.batchrun.specs.Code.Runs.{IsRun}
 use Rattle.batchrun.specs.declared.status.Status.{Status}
 use Rattle.batchrun.specs.declared.status.Status.TheVariants.{Made, ReadFault}

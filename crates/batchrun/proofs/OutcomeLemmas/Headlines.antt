@@ -1,5 +1,5 @@
 -- Consequences of `Prints` and `FailsPast`, for weaker statements about the report.
-use Rattle.std.proofs.Common.{ℕ, ◌≡◌, List, Option, Some, None, IfSome, Result, Ok, IfOk}
+use Rattle.std.proofs.Common.{ℕ, List, Option, Some, None, IfSome, Result, IfOk}
 use Rattle.batch_history.specs.declared.report.Report.{Report}
 use Rattle.batchrun.specs.Outcomes.{Prints, FailsPast}
 use Rattle.batchrun.specs.Code.Writing.{WritesReport}

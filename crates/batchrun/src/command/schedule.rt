@@ -1,5 +1,5 @@
 //! The schedule word: one digit of base 32 for each turn.
-ghost use Rattle.std.specs.Prelude.{◌≡◌, ◌<◌, ◌++◌, IfOk, IsTrue, nat_lt, map, drop};
+ghost use Rattle.std.specs.Prelude.{◌≡◌, ◌<◌, IfOk, IsTrue, nat_lt};
 ghost use Rattle.std.specs.List.{AllByRecursion, list_all};
 ghost use Rattle.batchrun.specs.Words.{digit_value, is_schedule, workers_named};
 

@@ -2,7 +2,7 @@
 //! the contract of an empty function.
 //!
 //! `Parts` is the invariant without the lists of ready nodes.
-ghost use Rattle.std.specs.Prelude.{◌≡◌, ◌≢◌, ℕ, ◌<◌, ◌≤◌, ◌*◌, None, Some, List};
+ghost use Rattle.std.specs.Prelude.{◌≡◌, ◌≢◌, ℕ, ◌<◌, ◌≤◌, ◌*◌, None, Some};
 ghost use Rattle.sp_order.specs.declared.node.Kind.TheVariants.{SeqNode, ParNode};
 ghost use Rattle.sp_order.specs.declared.node.Move.TheVariants.{OpenSecond, FinishParent, Arrive};
 ghost use Rattle.sp_order.specs.Jobs.{JobValue};

@@ -1,5 +1,5 @@
 //! The laws that bound how long a worker waits. Each is the contract of an empty function.
-ghost use Rattle.std.specs.Prelude.{◌≡◌, ℕ, ◌<◌, ◌≤◌, ◌+◌, ◌⊎◌, List, length};
+ghost use Rattle.std.specs.Prelude.{◌≡◌, ℕ, ◌<◌, ◌≤◌, ◌+◌, ◌⊎◌, length};
 ghost use Rattle.sp_order.specs.Jobs.{JobValue};
 ghost use Rattle.sp_order.specs.Plans.{IsPlan};
 ghost use Rattle.core_model.specs.declared.event.Event.{Event};

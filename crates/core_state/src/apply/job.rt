@@ -1,5 +1,5 @@
 //! The writes of the events of leaves and blocks: claim, start, open, keep, end, finish and arrive.
-ghost use Rattle.std.specs.Prelude.{◌≡◌, ◌<◌, ◌+◌, ◌^◌, length, Some, ◌++◌, ◌∷◌, [], ℕ, IfOk};
+ghost use Rattle.std.specs.Prelude.{◌≡◌, ◌<◌, ◌+◌, ◌^◌, length, Some, ◌++◌, ◌∷◌, [], IfOk};
 ghost use Rattle.core_model.specs.State.{put};
 ghost use Rattle.core_state.specs.Abstraction.{state_of, ready_of};
 ghost use Rattle.core_state.specs.Code.Sizes.{SameSizes};

@@ -1,12 +1,10 @@
 //! The choice of a worker that owns the flag or waits for it.
-ghost use Rattle.std.specs.Prelude.{◌≡◌, ◌<◌, ◌≤◌, ◌^◌, Some, length, map};
-ghost use Rattle.batch_history.specs.Book.{flat};
-ghost use Rattle.seq_objects.specs.Pairs.{AreDistinct};
+ghost use Rattle.std.specs.Prelude.{◌≡◌, ◌<◌, Some};
 ghost use Rattle.core_model.specs.Settings.{job_of, HasLeaf};
 ghost use Rattle.core_model.specs.Operations.{place_of};
 ghost use Rattle.core_model.specs.Tasks.{names};
 ghost use Rattle.core_model.specs.Choice.{leaf_named as leaf_at, answer_with, choice_pending, choice_holding};
-ghost use Rattle.core_state.specs.Abstraction.{state_of, hold_of};
+ghost use Rattle.core_state.specs.Abstraction.{state_of};
 ghost use Rattle.core_state.specs.Holds.{hold_view};
 ghost use Rattle.core_state.specs.Code.Lookups.{CanChoose};
 

@@ -1,5 +1,5 @@
 //! The choice of a worker that claims a node, the event of a next act, and the work that is due.
-ghost use Rattle.std.specs.Prelude.{◌≡◌, ◌<◌, ◌≤◌, ℕ, length, None, Some, IfSome, IsTrue};
+ghost use Rattle.std.specs.Prelude.{◌≡◌, ◌<◌, ◌≤◌, ℕ, None, Some, IfSome, IsTrue};
 ghost use Rattle.core_model.specs.Next.{event_of};
 ghost use Rattle.core_model.specs.Settings.{job_of};
 ghost use Rattle.core_state.specs.Abstraction.{state_of, ready_of};

@@ -1,5 +1,5 @@
 //! The opening state of a run.
-ghost use Rattle.std.specs.Prelude.{◌≡◌, ◌<◌, ℕ, length, IfOk, replicate};
+ghost use Rattle.std.specs.Prelude.{◌≡◌, ◌<◌, length, IfOk, replicate};
 ghost use Rattle.core_model.specs.State.{opening_state, opening_core};
 ghost use Rattle.core_state.specs.Places.{at};
 ghost use Rattle.core_state.specs.Abstraction.{state_of, ready_of};

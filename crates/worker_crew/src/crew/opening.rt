@@ -1,7 +1,6 @@
 //! Construction of a crew, and of its workers, at the start of a run.
-ghost use Rattle.std.specs.Prelude.{◌≡◌, ◌*◌, ◌<◌, ◌≤◌, ℕ, length, slice_index_or, Some, IsSome, IfOk};
+ghost use Rattle.std.specs.Prelude.{◌≡◌, ◌*◌, ◌<◌, ◌≤◌, ℕ, length, slice_index_or, IsSome, IfOk};
 ghost use Rattle.std.specs.List.{count_by};
-ghost use Rattle.sp_order.specs.Preorder.{nodes_of};
 ghost use Rattle.core_table.specs.declared.table.Pass.{Pass as PassOf};
 ghost use Rattle.core_table.specs.Passes.{IsPassOf, job_in, pass_view, planned_in};
 ghost use Rattle.two_deques.specs.Hands.{core_room_of, batch_room_of};

@@ -1,7 +1,6 @@
 //! The state behind the lock: the core of the job that is run.
-ghost use Rattle.std.specs.Prelude.{◌≡◌, ◌<◌, IfOk, None, Some, true, false, ℕ, []};
-ghost use Rattle.sp_order.specs.Jobs.{JobValue, job_tree};
-ghost use Rattle.sp_order.specs.Precedence.{leaves};
+ghost use Rattle.std.specs.Prelude.{◌≡◌, ◌<◌, IfOk, None, true, false, ℕ, []};
+ghost use Rattle.sp_order.specs.Jobs.{JobValue};
 ghost use Rattle.batch_history.specs.Lawful.{Lawful};
 ghost use Rattle.batcher_core.specs.Cores.{state_in};
 ghost use Rattle.core_model.specs.Invariant.{Invariant};

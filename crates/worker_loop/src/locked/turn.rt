@@ -1,5 +1,5 @@
 //! What a worker sees of the core while it holds the lock, and its turn there.
-ghost use Rattle.std.specs.Prelude.{◌≡◌, ◌<◌, ◌≤◌, IfOk, IfSome, Some, false, ℕ};
+ghost use Rattle.std.specs.Prelude.{◌≡◌, ◌<◌, IfOk, IfSome, Some, false, ℕ};
 ghost use Rattle.batcher_core.specs.Cores.{job_in, state_in, due_in, IsTurnResult};
 ghost use Rattle.batcher_core.specs.declared.turn.Turn.TheVariants.{Spin};
 ghost use Rattle.worker_loop.specs.Looks.{IsMade};

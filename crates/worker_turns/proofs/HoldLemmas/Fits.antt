@@ -1,5 +1,5 @@
 -- A call that is taken can be served with those that were taken before.
-use Rattle.std.proofs.Common.{ℕ, ◌≡◌, ◌≢◌, ◌<◌, ◌≤◌, ◌+◌, List, [], ◌∷◌, ◌++◌, length, map, arith, sym, ap, ◌∙◌, subst, length-append}
+use Rattle.std.proofs.Common.{ℕ, ◌≡◌, ◌≢◌, ◌<◌, ◌≤◌, ◌+◌, List, [], ◌∷◌, ◌++◌, length, map, arith, sym, subst, length-append}
 use Rattle.std.specs.List.{AllByRecursion}
 use Rattle.seq_objects.specs.Pairs.{AreDistinct}
 use Rattle.seq_objects.proofs.Elements.{each_append, each_so}

@@ -1,8 +1,7 @@
-use Rattle.std.proofs.Common.{◌≡◌, ◌+◌, ◌∷◌, [], ◌++◌, length, map, sym, subst, ◌∙◌, arith, length-append}
+use Rattle.std.proofs.Common.{◌≡◌, ◌+◌, ◌∷◌, [], length, map, arith, length-append}
 use Rattle.std.proofs.lemmas.Grind.{common_steps}
 use Rattle.std.proofs.lemmas.List.{map-append, length-map}
 use Rattle.object_rows.specs.declared.members.Members.TheVariants.{One}
-use Rattle.launch_batch.specs.ByStructure.{placed}
 use Rattle.launch_batch.proofs.PieceLemmas.Placing.{put_more}
 use Rattle.launch_batch.proofs.row.place_ones.Goals as goal
 

@@ -4,7 +4,7 @@ use Rattle.batched_counter.specs.Pieces.{Cut as CounterCut, IsContextOf as IsCou
 use Rattle.batched_stack.specs.Pieces.{Cut as StackCut, IsContextOf as IsStackContext}
 use Rattle.batched_tree.specs.Pieces.{Cut as TreeCut, IsContextOf as IsTreeContext}
 use Rattle.batched_pq.specs.Pieces.{Cut as QueueCut, IsContextOf as IsQueueContext}
-use Rattle.launch_batch.proofs.Words.{Counter, Stack, Tree, Queue, calls_of, calls_at, of_counter, of_stack, of_set, of_bag, place_of, MatchesHistory, HasRoom}
+use Rattle.launch_batch.proofs.Words.{Counter, Stack, Tree, Queue, calls_of, calls_at, of_counter, of_stack, of_set, of_bag, MatchesHistory, HasRoom}
 use Rattle.launch_batch.proofs.PieceLemmas.Ascending.{some_rows}
 use Rattle.launch_batch.proofs.PieceLemmas.Counting.{rows_are}
 use Rattle.launch_batch.proofs.BatchLemmas.Beginning.{own_at, may_add, some_by_kind, cut_for, context_for}

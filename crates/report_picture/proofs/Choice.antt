@@ -11,16 +11,13 @@ use Rattle.report_picture.specs.Picture.{box_drawing, column_drawing, has_boxes,
 use Rattle.report_picture.specs.Code.Texts.{drawing_text, columns_text}
 use Rattle.report_picture.proofs.Written.{drawing_is}
 use Rattle.report_picture.proofs.ColumnTexts.{columns_are}
-use Rattle.std.proofs.lemmas.Bool.{and_parts}
-
-at_most : (n m : ℕ) → nat_le n m ≡ true → n ≤ m
-at_most n m e = grind (arith, e)
+use Rattle.std.proofs.lemmas.Bool.{and_parts, leb-true}
 
 pub few_rows : (report : Report) → has_boxes report ≡ true → length report.rows ≤ 2000
-few_rows report e = at_most (length report.rows) 2000 (and_parts (nat_le (length report.rows) 2000) (nat_le (length (flat report.history)) 2000) e).0
+few_rows report e = leb-true (length report.rows) 2000 (and_parts (nat_le (length report.rows) 2000) (nat_le (length (flat report.history)) 2000) e).0
 
 pub few_calls : (report : Report) → has_boxes report ≡ true → length (flat report.history) ≤ 2000
-few_calls report e = at_most (length (flat report.history)) 2000 (and_parts (nat_le (length report.rows) 2000) (nat_le (length (flat report.history)) 2000) e).1
+few_calls report e = leb-true (length (flat report.history)) 2000 (and_parts (nat_le (length report.rows) 2000) (nat_le (length (flat report.history)) 2000) e).1
 
 -- where no batch is empty, there are no more batches than calls
 pub few_batches : (book : List (List Entry)) → AllByRecursion (λ batch. batch ≢ []) book → length book ≤ length (flat book)

@@ -68,12 +68,9 @@ start_cost job (Some (SeqNode l r)) = omega arith
 start_cost job (Some (ParNode l r)) = omega arith
 start_cost job None = omega arith
 
-mul_distrib : (a b k : ℕ) → (a + b) * k ≡ a * k + b * k
-mul_distrib a b k = omega arith
-
 total_bound : (f g : ℕ → ℕ) (k n : ℕ) → ((m : ℕ) → f m ≤ 6 + g m * k) → total f n ≤ 6 * n + total g n * k
 total_bound f g k zero h = omega arith
-total_bound f g k (suc n) h = let a = h n in let b : total f n ≤ 6 * n + total g n * k = total_bound f g k n h in let c : (g n + total g n) * k ≡ g n * k + total g n * k = mul_distrib (g n) (total g n) k in omega arith
+total_bound f g k (suc n) h = let a = h n in let b : total f n ≤ 6 * n + total g n * k = total_bound f g k n h in let c : (g n + total g n) * k ≡ g n * k + total g n * k = omega arith in omega arith
 
 pub total_zero : (f : ℕ → ℕ) (n : ℕ) → ((m : ℕ) → f m ≡ 0) → total f n ≡ 0
 total_zero f zero h = refl

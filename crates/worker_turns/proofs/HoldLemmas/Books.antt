@@ -19,15 +19,15 @@ new_leaf book leaf none =
     each_mapped (λ (entry : Entry). entry.leaf) (λ (entry : Entry). place_of book entry.leaf ≢ None) (λ other. leaf ≢ other)
     (λ entry found is. found (ap (place_of book) (sym is) ∙ none)) (flat book) (each_in_book book)
 
-none_by : {A : Type 0} (o : Option A) → ((a : A) → o ≡ Some a → ⊥) → o ≡ None
-none_by None h = refl
-none_by (Some a) h = absurd (h a refl)
-
 -- and the other way round
 pub unbooked : (book : List (List Entry)) (leaf : ℕ) → AllByRecursion (λ other. leaf ≢ other) (map (λ (entry : Entry). entry.leaf) (flat book)) → place_of book leaf ≡ None
-unbooked book leaf new = none_by (place_of book leaf) (λ place at.
-    let found = found_in_book (λ (entry : Entry). leaf ≢ entry.leaf) book leaf place (each_unmapped (λ (entry : Entry). entry.leaf) (λ other. leaf ≢ other) (flat book) new) at in
-    found.0 (sym found.1))
+unbooked book leaf new = not_found (place_of book leaf) refl
+  where
+    not_found : (found : Option Place) → place_of book leaf ≡ found → place_of book leaf ≡ None
+    not_found None at = at
+    not_found (Some place) at =
+        let other = found_in_book (λ (entry : Entry). leaf ≢ entry.leaf) book leaf place (each_unmapped (λ (entry : Entry). entry.leaf) (λ other. leaf ≢ other) (flat book) new) at in
+        absurd (other.0 (sym other.1))
 
 -- where no leaf stands twice in a batch, each of its entries is found at its place
 pub found_at : (number first : ℕ) (batch : List Entry) (place : ℕ) (entry : Entry) → AreDistinct (map (λ (e : Entry). e.leaf) batch) → slice_get batch place ≡ Some entry

@@ -15,7 +15,7 @@ use Rattle.worker_turns.specs.Stops.{unstopped}
 use Rattle.worker_turns.specs.Pieces.{IsOwnPiece, IsSteal}
 use Rattle.worker_turns.specs.Free.{IsOwnNode, IsOther, StoleNothing, RanToIdle, IsFreeTurn}
 use Rattle.worker_turns.specs.Meanings.Gains.{Took, Gained, HasAllEnds}
-use Rattle.worker_turns.specs.Meanings.Free.{next_worker, TryWasFruitless, CameBy, DidRun, DidRunPiece, DidFindNothing}
+use Rattle.worker_turns.specs.Meanings.Free.{next_worker, TryFailed, CameBy, DidRun, DidRunPiece, DidFindNothing}
 use Rattle.worker_turns.proofs.MeaningLemmas.Gains.{popped, took_none, took_from, stole, failed_rose, try_below}
 
 -- the worker after its look at the stop word and an empty pop of its own deque of nodes; and after an empty pop of its
@@ -193,7 +193,7 @@ no_other (Node NoNode) old new ends unrun (deck, steal, same) = record {
     refused = ap (λ (m : WorkerView). m.desk.refused) same;
     core_pops = ap (λ (e : HeldEnds ℕ). e.empty_pops) steal;
     batch_pops = ap (λ (m : WorkerView). m.batch.empty_pops) same;
-    steal = λ more. subst (λ (d : Deck). TryWasFruitless d (next_worker old) old new) (sym deck)
+    steal = λ more. subst (λ (d : Deck). TryFailed d (next_worker old) old new) (sym deck)
         (failed_rose (next_worker old) (after_empty_pop old.core) new.core (subst (λ (n : ℕ). next_worker old < n) (sym ends.core.failed) (try_below old.tries ends.some)) steal);
   });
 }
@@ -217,7 +217,7 @@ no_other (Piece Empty) old new ends unrun (deck, steal, same) = record {
     refused = ap (λ (m : WorkerView). m.desk.refused) same;
     core_pops = ap (λ (m : WorkerView). m.core.empty_pops) same;
     batch_pops = ap (λ (e : HeldEnds Spot). e.empty_pops) steal;
-    steal = λ more. subst (λ (d : Deck). TryWasFruitless d (next_worker old) old new) (sym deck)
+    steal = λ more. subst (λ (d : Deck). TryFailed d (next_worker old) old new) (sym deck)
         (failed_rose (next_worker old) (after_empty_pop old.batch) new.batch (subst (λ (n : ℕ). next_worker old < n) (sym ends.batch.failed) (try_below old.tries ends.some)) steal);
   });
 }

@@ -13,7 +13,7 @@ use Rattle.piece_board.specs.declared.view.DeskView.{DeskView}
 use Rattle.launch_batch.specs.declared.piece.PieceIn.{PieceIn}
 use Rattle.table_rule.specs.declared.view.PassView.{PassView}
 use Rattle.worker_turns.specs.Pieces.{IsPop, IsSteal, by_deck, piece_try}
-use Rattle.worker_turns.specs.Meanings.Gains.{Took, HasAllEnds, FruitlessRose}
+use Rattle.worker_turns.specs.Meanings.Gains.{Took, HasAllEnds, FailedRose}
 
 -- what a pop or a steal gave, as a list
 abbrev pub listed : {T : Type 0} → Option T → List T
@@ -73,7 +73,7 @@ module _ {T : Type 0} where
         };
       }
 
-  pub failed_rose : (victim : ℕ) (old new : HeldEnds T) → victim < length old.failed_steals → IsSteal victim None old new → FruitlessRose victim old new
+  pub failed_rose : (victim : ℕ) (old new : HeldEnds T) → victim < length old.failed_steals → IsSteal victim None old new → FailedRose victim old new
   failed_rose victim old new below is =
       ap (λ (e : HeldEnds T). get_or e.failed_steals victim 0) is ∙ get_or-set_same old.failed_steals victim _ 0 below
 

@@ -7,16 +7,16 @@ use Rattle.two_deques.specs.Ends.{HeldEnds}
 use Rattle.two_deques.specs.Tries.{try_of}
 use Rattle.table_rule.specs.declared.view.PassView.{PassView}
 use Rattle.worker_crew.specs.Workers.{WorkerView}
-use Rattle.worker_turns.specs.Meanings.Gains.{GrewBy, on_board, EmptyPopsRose, FruitlessRose, Took, Gained, GainedNone}
+use Rattle.worker_turns.specs.Meanings.Gains.{GrewBy, on_board, EmptyPopsRose, FailedRose, Took, Gained, GainedNone}
 
 -- the victim of the next steal, at either of its deques
 abbrev pub next_worker : WorkerView → ℕ
 next_worker m = (try_of m.tries).victim
 
 -- the count of failed steals at this kind of deque of the victim rose by one
-abbrev pub TryWasFruitless : Deck → ℕ → WorkerView → WorkerView → Type 0
-TryWasFruitless CoreDeck victim old new = FruitlessRose victim old.core new.core
-TryWasFruitless BatchDeck victim old new = FruitlessRose victim old.batch new.batch
+abbrev pub TryFailed : Deck → ℕ → WorkerView → WorkerView → Type 0
+TryFailed CoreDeck victim old new = FailedRose victim old.core new.core
+TryFailed BatchDeck victim old new = FailedRose victim old.batch new.batch
 
 -- the worker claimed no node
 pub record ClaimedNone (old new : PassView) : Type 0 where
@@ -70,7 +70,7 @@ pub record FoundNothing (old new : WorkerView) : Type 0 where
   pub refused : new.desk.refused ≡ old.desk.refused
   pub core_pops : EmptyPopsRose old.core new.core
   pub batch_pops : EmptyPopsRose old.batch new.batch
-  pub steal : 1 < old.tries.workers → TryWasFruitless (try_of old.tries).deck (next_worker old) old new
+  pub steal : 1 < old.tries.workers → TryFailed (try_of old.tries).deck (next_worker old) old new
 
 -- One node was got, and its claim was refused; no spot was got or refused.
 pub record FoundNode (old new : WorkerView) : Type 0 where

@@ -23,8 +23,8 @@ module _ {T : Type 0} where
   failed_at victim e = slice_index_or e.failed_steals victim 0
 
   -- this number rose by one (saturating)
-  abbrev pub FruitlessRose : ℕ → HeldEnds T → HeldEnds T → Type 0
-  FruitlessRose victim old new = failed_at victim new ≡ risen (failed_at victim old)
+  abbrev pub FailedRose : ℕ → HeldEnds T → HeldEnds T → Type 0
+  FailedRose victim old new = failed_at victim new ≡ risen (failed_at victim old)
 
   -- the hand took exactly these tasks from the victim's deque, in this order, and none from any other
   pub record Took (victim : ℕ) (taken : List T) (old new : HeldEnds T) : Type 0 where

@@ -7,7 +7,7 @@ use Rattle.table_rule.specs.declared.view.PassView.{PassView}
 use Rattle.table_rule.specs.Passes.{finding_none}
 use Rattle.worker_turns.specs.Trapped.{IsLeft}
 use Rattle.worker_crew.specs.Workers.{WorkerView}
-use Rattle.worker_turns.specs.Meanings.Gains.{GrewBy, on_board, EmptyPopsRose, FruitlessRose, Gained, next_victim}
+use Rattle.worker_turns.specs.Meanings.Gains.{GrewBy, on_board, EmptyPopsRose, FailedRose, Gained, next_victim}
 
 -- The pop of the own deque of pieces gave none to run: the count of empty pops rose, or exactly one spot was lost from
 -- the own list.
@@ -18,7 +18,7 @@ OwnGaveNone lost old new = EmptyPopsRose old new ⊎ ((spot : Spot) × (lost ≡
 -- rose; or exactly one spot was taken there.
 abbrev pub StealGaveNone : List Spot → WorkerView → WorkerView → Type 0
 StealGaveNone taken old new =
-    (old.tries.workers ≡ 1) ⊎ (FruitlessRose (next_victim old) old.batch new.batch
+    (old.tries.workers ≡ 1) ⊎ (FailedRose (next_victim old) old.batch new.batch
     ⊎ ((spot : Spot) × (taken ≡ spot ∷ [])))
 
 -- one leave and one win were refused

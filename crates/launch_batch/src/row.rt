@@ -14,6 +14,7 @@ use crate::merge::ReplyCursor;
 use crate::piece::PieceIn;
 use object_rows::close::close_row;
 use object_rows::open::open_row;
+use object_rows::run::run_rows;
 use object_rows::{Members, Row, RowList};
 use seq_objects::{Batched, Call};
 use std::alloc::{AllocError, Global};
@@ -148,6 +149,31 @@ pub(crate) fn close<T: Kind>(
     }
     let mut own = Vec::new(alloc);
     let calls = calls_of::<T>(calls, &mut own)?;
+    let replies = close_row(alloc, row, calls, outs)?;
+    Ok(ReplyCursor::new(replies))
+}
+
+/// Serves the calls of a row: opens the structures that they call, runs the pieces place after place, and closes the
+/// structures. Returns the replies.
+pub(crate) fn serve<T: Kind>(
+    alloc: Global,
+    row: &mut RowOf<T>,
+    calls: &[Call],
+) -> Result<ReplyCursor, AllocError>
+    requires batch { AreOneBatch calls.now }
+    requires closed { row.old.called.items ≡ [] }
+    requires may { (number : ℕ)
+        → T.may_serve (store_of T.content row.old.closed number) (calls_at number (calls_of T.kind calls.now)) }
+    ensures { IfOk result (λ v.
+        HasServed T.content row.new (store_of T.content row.old.closed) (calls_of T.kind calls.now) v) }
+{
+    let mut own = Vec::new(alloc);
+    let calls = calls_of::<T>(calls, &mut own)?;
+    if calls.is_empty() {
+        return Ok(ReplyCursor::new(Vec::new(alloc)));
+    }
+    let ins = open_row::<T, Maker>(alloc, row, calls)?;
+    let outs = run_rows::<T>(alloc, ins)?;
     let replies = close_row(alloc, row, calls, outs)?;
     Ok(ReplyCursor::new(replies))
 }

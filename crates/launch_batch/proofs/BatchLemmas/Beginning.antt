@@ -1,11 +1,11 @@
 -- The facts at the opening of a batch.
 use Rattle.std.proofs.Common.{ℕ, ◌≡◌, ◌==◌, ◌≤◌, ◌<◌, ◌+◌, ◌*◌, ◌^◌, List, [], length, map, None, refl, ap, sym, subst, ◌∙◌, arith}
-use Rattle.launch_batch.proofs.Words.{AllByRecursion, Call, number_of, AreDistinct, ObjectKind, Counter, Stack, Tree, Queue, AreInBatchOrder, AreOneBatch, kind_of, same_kind, calls_of, calls_at, of_counter, Entry, flat, MayServe, ArePermutations, IsNarrow, Members, Objects, opening, alone, served_book, BatchContext, store_of_kind, MatchesHistory}
+use Rattle.launch_batch.proofs.Words.{AllByRecursion, Call, number_of, AreDistinct, ObjectKind, Counter, Stack, Tree, Queue, AreInBatchOrder, AreOneBatch, kind_of, same_kind, calls_of, calls_at, of_counter, Entry, flat, MayServe, ArePermutations, IsNarrow, Members, Objects, Reply, opening, alone, served_book, BatchContext, store_of_kind, MatchesHistory}
 use Rattle.seq_objects.specs.Batches.{AreOf}
 use Rattle.seq_objects.proofs.Filters.{are_of}
 use Rattle.object_rows.specs.declared.row.Row.{Row}
 use Rattle.object_rows.specs.Contents.{structure_at, content_or_opening, store_of}
-use Rattle.object_rows.specs.Contexts.{IsRowContextOf}
+use Rattle.object_rows.specs.Contexts.{IsRowContextOf, HasServed}
 use Rattle.object_rows.specs.Cuts.{AreCut}
 use Rattle.batched_counter.specs.Calls.{MayServe as MayAdd}
 use Rattle.launch_batch.proofs.ListLemmas.Same.{each_same, distinct_same, length_same}
@@ -84,3 +84,8 @@ pub context_for : {T R In : Type 0} (content : T → Objects) (kind : ObjectKind
 context_for content kind is_context_of row now history calls ins own m are is =
     subst (λ l. IsRowContextOf content is_context_of now (record { before = store_of_kind kind (served_book history); calls = calls; ins = l })) (sym are)
     (subst (λ store. IsRowContextOf content is_context_of now (record { before = store; calls = calls; ins = ins })) (store_is content kind row history m) is)
+
+-- what the structures of a kind have served where they matched the history
+pub served_for : {T R : Type 0} (content : T → Objects) (kind : ObjectKind) (row now : Row T R) (history : List (List Entry)) (calls : List Call) (replies : List Reply) → MatchesHistory content kind row history
+    → HasServed content now (store_of content row.closed) calls replies → HasServed content now (store_of_kind kind (served_book history)) calls replies
+served_for content kind row now history calls replies m is = subst (λ store. HasServed content now store calls replies) (store_is content kind row history m) is

@@ -1,13 +1,40 @@
-use Rattle.launch_batch.proofs.PieceLemmas.Rows.{all_of, apart}
+use Rattle.std.proofs.Common.{sym, subst}
+use Rattle.batched_counter.specs.Calls.{MayServe as MayAdd}
+use Rattle.launch_batch.proofs.Words.{Counter, Stack, Tree, Queue, calls_of, calls_at}
+use Rattle.launch_batch.proofs.BatchLemmas.Beginning.{own_at, may_add}
+use Rattle.launch_batch.proofs.BatchLemmas.Closing.{have_served_own}
 use Rattle.launch_batch.proofs.serving.serve.Goals as goal
 
-pub into_shop-requires : goal.into_shop-requires
-into_shop-requires c =
-    let rows = c.in_ok-opened.rows in
-    (record { before = c.args.shop; calls = c.args.calls.items; ins = all_of rows }, c.in_ok-opened.ensures.context (all_of rows) (apart rows), c.in_ok-outs.ensures (all_of rows) (apart rows))
+pub serve-requires-clause-may : goal.serve-requires-clause-may
+serve-requires-clause-may c = λ lifetimes number.
+    let i = c.shop.invariant in
+    rw (c.deref_mut-inner.ensures.value, c.as_slice-all.ensures.value)
+    (subst (λ objects. MayAdd objects (calls_at number (calls_of Counter c.in_ok-calls.calls.items))) (sym (i.counter.contents number))
+    (may_add c.shop.inside.history c.args.calls.items c.in_ok-calls.calls.items number _ (rw c.shop.view_is c.requires) c.in_ok-calls.ensures.same c.in_ok-calls.ensures.narrow (i.room number)))
+
+pub serve-requires-2-clause-may : goal.serve-requires-2-clause-may
+serve-requires-2-clause-may c = λ lifetimes number. own_at Stack number c.as_slice-all.result.now
+
+pub serve-requires-3-clause-may : goal.serve-requires-3-clause-may
+serve-requires-3-clause-may c = λ lifetimes number. own_at Tree number c.as_slice-all.result.now
+
+pub serve-requires-4-clause-may : goal.serve-requires-4-clause-may
+serve-requires-4-clause-may c = λ lifetimes number. own_at Queue number c.as_slice-all.result.now
+
+pub commit-requires : goal.commit-requires
+commit-requires c =
+    rw c.as_slice-all.ensures.value (
+      c.args.calls.items,
+      have_served_own c.shop.inside.structures.value c.shop.inside.history c.args.calls.items c.in_ok-calls.calls.items c.shop.invariant
+          (record { may = rw c.shop.view_is c.requires; same = c.in_ok-calls.ensures.same; order = c.in_ok-calls.ensures.batch.order; narrow = c.in_ok-calls.ensures.narrow })
+          _ _ _ _ c.deref_mut-inner.ensures.value c.as_slice-all.ensures.value
+          c.in_ok-serve.ensures c.in_ok-serve-2.ensures c.in_ok-serve-3.ensures c.in_ok-serve-4.ensures,
+    )
 
 pub returns : goal.returns
 returns c =
-    let rows = c.in_ok-opened.rows in
-    c.in_ok-next.ensures (record { before = c.args.shop; calls = c.args.calls.items; ins = all_of rows })
-    (c.in_ok-opened.ensures.context (all_of rows) (apart rows)) (c.in_ok-outs.ensures (all_of rows) (apart rows))
+    rw (sym c.shop.view_is) (c.in_ok-next.ensures c.args.calls.items (rw c.as_slice-all.ensures.value
+    (have_served_own c.shop.inside.structures.value c.shop.inside.history c.args.calls.items c.in_ok-calls.calls.items c.shop.invariant
+    (record { may = rw c.shop.view_is c.requires; same = c.in_ok-calls.ensures.same; order = c.in_ok-calls.ensures.batch.order; narrow = c.in_ok-calls.ensures.narrow })
+    _ _ _ _ c.deref_mut-inner.ensures.value c.as_slice-all.ensures.value
+    c.in_ok-serve.ensures c.in_ok-serve-2.ensures c.in_ok-serve-3.ensures c.in_ok-serve-4.ensures)))

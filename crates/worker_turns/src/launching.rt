@@ -63,7 +63,7 @@ fn collect_pending(
     ensures fit { IfOk result (λ _. Holds AreFit (pass_view pass.new).hold) }
     ensures failed { IfErr result (λ stop. stop ≡ Memory) }
 {
-    let mut calls = Vec::new(alloc);
+    let mut calls = Vec::with_capacity(alloc, workers as usize)?;
     for u in 0..workers {
         if let Ok(call) = take_pending(table, pass, u) {
             calls.push(call)?;

@@ -1,6 +1,6 @@
 -- What a worker does at its desk while it waits, one thing after another.
-use Rattle.std.proofs.Common.{◌≡◌, ℕ, ◌+◌, ◌==◌, eq-eqb, true, None, List, [], ◌∷◌, ◌++◌, length, drop, sym, refl, ap, ◌∙◌, subst, inl, inr, arith, append_assoc, append-nil, length-append, ◌<◌, map, take, get_or}
-use Rattle.std.proofs.lemmas.List.{drop-drop, take_more, map-append}
+use Rattle.std.proofs.Common.{◌≡◌, ℕ, ◌+◌, ◌==◌, eq-eqb, true, None, List, [], ◌∷◌, ◌++◌, length, drop, sym, refl, ap, ◌∙◌, subst, inl, inr, arith, append_assoc, append-nil, length-append, map}
+use Rattle.std.proofs.lemmas.List.{drop-drop, map-append}
 use Rattle.two_deques.specs.declared.spot.Spot.{Spot}
 use Rattle.seq_objects.specs.Orders.{StrictlyAscends}
 use Rattle.piece_board.specs.Entries.{without, entry_at}
@@ -92,16 +92,14 @@ pub posted_none : (d : Desk) → d.posted ≡ [] → d ≡ after_posts [] d
 posted_none d free = λ i. record d { posted = free i; posts = sym (append-nil d.posts) i }
 
 -- one more piece is posted
-pub posted_more : (d e f : Desk) (ins : List PieceIn) (k n : ℕ) (x : PieceIn) → k < length ins → x ≡ get_or ins k x → n ≡ place_of x
-    → e ≡ after_posts (take k ins) d → f ≡ after_post n x e → f ≡ after_posts (take (k + 1) ins) d
-posted_more d e f ins k n x inside at is was now =
-    let more : take (k + 1) ins ≡ take k ins ++ x ∷ [] = take_more ins k x inside ∙ ap (λ y. take k ins ++ y ∷ []) (sym at) in
-    now ∙ ap (after_post n x) was ∙ ap (λ (m : ℕ). after_post m x (after_posts (take k ins) d)) is
+pub posted_more : (d e f : Desk) (front : List PieceIn) (n : ℕ) (x : PieceIn) → n ≡ place_of x
+    → e ≡ after_posts front d → f ≡ after_post n x e → f ≡ after_posts (front ++ x ∷ []) d
+posted_more d e f front n x is was now =
+    now ∙ ap (after_post n x) was ∙ ap (λ (m : ℕ). after_post m x (after_posts front d)) is
     ∙ (λ i. record d {
-      posted = sym (map-append with_place (take k ins) (x ∷ [])) i;
-      posts = (append_assoc d.posts (map place_of (take k ins)) (place_of x ∷ []) ∙ ap (λ l. d.posts ++ l) (sym (map-append place_of (take k ins) (x ∷ [])))) i;
+      posted = sym (map-append with_place front (x ∷ [])) i;
+      posts = (append_assoc d.posts (map place_of front) (place_of x ∷ []) ∙ ap (λ l. d.posts ++ l) (sym (map-append place_of front (x ∷ [])))) i;
     })
-    ∙ ap (λ l. after_posts l d) (sym more)
 
 -- the own deque of pieces was tried once
 pub own_works : (t : PieceAttempt) (a b : WorkerView) → IsOwnPiece t a b → DrainsRow 0 a.desk b.desk
@@ -120,7 +118,7 @@ other_core t a b (inl alone) = ap (λ (m : WorkerView). m.core) alone.2
 other_core t a b (inr stolen) = ap (λ (m : WorkerView). m.core) stolen.same
 
 -- the next place is free
-pub free_next : (d e : Desk) (ins : List PieceIn) (k n : ℕ) (x : PieceIn) → StrictlyAscends (map place_of ins) → k < length ins → x ≡ get_or ins k x → n ≡ place_of x
-    → e ≡ after_posts (take k ins) d → posted_at n e ≡ None
-free_next d e ins k n x up inside at is was =
-    ap (λ (q : Desk). posted_at n q) was ∙ ap (λ (m : ℕ). entry_at m (map with_place (take k ins))) is ∙ next_free place_of ins k x up inside at
+pub free_next : (d e : Desk) (front rest : List PieceIn) (n : ℕ) (x : PieceIn) → StrictlyAscends (map place_of (front ++ x ∷ rest)) → n ≡ place_of x
+    → e ≡ after_posts front d → posted_at n e ≡ None
+free_next d e front rest n x up is was =
+    ap (λ (q : Desk). posted_at n q) was ∙ ap (λ (m : ℕ). entry_at m (map with_place front)) is ∙ next_free place_of front rest x up

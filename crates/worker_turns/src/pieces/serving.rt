@@ -45,10 +45,8 @@ fn post_all<G: Pause>(
     ensures failed { IfErr result (λ stop. stop ≡ Memory) }
 {
     let row = me.hand.worker();
-    let mut ins = ins;
-    let mut places = Vec::new(alloc);
-    for k in 0..ins.len() {
-        let input = ins.remove(0);
+    let mut places = Vec::with_capacity(alloc, ins.len())?;
+    for input in ins {
         let place = input.place();
         places.push(place)?;
         crew.board.post(&mut me.desk, place, input);
@@ -133,7 +131,7 @@ fn collect_all<G: Pause, R: Wait>(
     ensures seen { IfOk result (λ _. HasOnlyLooked (pass_view me.old.pass) (pass_view me.new.pass)) }
     ensures stopped { IfErr result (λ stop. IsStop stop (pass_view me.old.pass) (pass_view me.new.pass)) }
 {
-    let mut outs = Vec::new(alloc);
+    let mut outs = Vec::with_capacity(alloc, places.len())?;
     for k in 0..places.len() {
         let out = collect_one(rt, alloc, crew, me, places[k])?;
         outs.push(out)?;

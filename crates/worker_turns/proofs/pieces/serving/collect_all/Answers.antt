@@ -16,7 +16,7 @@ loop-k-init g c = record {
   core = refl;
   seen = looked_none _;
   desk = works_none _;
-  meet = λ ins is. subst (λ (outs : List PieceOut). AllMeet Meets [] outs) (sym c.new-outs.ensures.items) tt;
+  meet = λ ins is. subst (λ (outs : List PieceOut). AllMeet Meets [] outs) (sym c.in_ok-outs.ensures.items) tt;
   inside = omega arith;
 }
 

@@ -1,4 +1,4 @@
-use Rattle.std.proofs.Common.{◌≡◌, ◌≤◌, map, take, drop, length}
+use Rattle.std.proofs.Common.{◌≡◌, ◌++◌, map}
 use Rattle.two_deques.specs.Hands.{held}
 use Rattle.piece_board.specs.Boards.{desk_view}
 use Rattle.launch_batch.specs.Pieces.{place_of}
@@ -6,14 +6,13 @@ use Rattle.worker_crew.specs.Workers.{IsMeOf}
 use Rattle.worker_turns.specs.Pieces.{after_posts}
 use Rattle.worker_turns.proofs.pieces.serving.post_all.Given as goal
 
-abbrev pub invariant-loop-k : goal.invariant-loop-k
-invariant-loop-k g l = record {
+abbrev pub invariant-loop-input : goal.invariant-loop-input
+invariant-loop-input g l = record {
   me : IsMeOf l.crew.table l.crew.decks l.crew.board l.me;
   core : (held l.me.hand).core ≡ (held l.initial.me.hand).core;
   pass : l.me.pass ≡ l.initial.me.pass;
-  left : l.ins.items ≡ drop l.k l.fn.ins.items;
-  inside : l.k ≤ length l.fn.ins.items;
-  places : l.places.items ≡ map place_of (take l.k l.fn.ins.items);
-  desk : desk_view l.me.desk ≡ after_posts (take l.k l.fn.ins.items) (desk_view l.initial.me.desk);
+  all : l.yielded ++ l.input-iterator.rest.items ≡ l.initial.input-iterator.rest.items;
+  places : l.places.items ≡ map place_of l.yielded;
+  desk : desk_view l.me.desk ≡ after_posts l.yielded (desk_view l.initial.me.desk);
   row : l.row ≡ (held l.initial.me.hand).worker;
 }

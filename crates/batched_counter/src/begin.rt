@@ -5,6 +5,7 @@ ghost use Rattle.batched_counter.specs.Calls.{addend_of, addends};
 ghost use Rattle.batched_counter.specs.Pieces.{IsCutInto, addends_in};
 
 use crate::piece::Piece;
+use arrayvec::ArrayVec;
 use seq_objects::{Call, Op};
 use std::alloc::{AllocError, Global};
 
@@ -18,21 +19,24 @@ fn addend_of(op: Op) -> u32
     }
 }
 
-/// The addends of the calls, in call order.
-fn addends_of(alloc: Global, calls: &[Call]) -> Result<Vec<u64>, AllocError>
-    ensures { IfOk result (λ v. v.items ≡ addends calls.now) }
+/// The addends of at most 2 calls, in call order.
+fn addends_of(calls: &[Call]) -> ArrayVec<u64, 2>
+    requires { length calls.now ≤ 2 }
+    ensures { result.items ≡ addends calls.now }
 {
-    let mut all = Vec::with_capacity(alloc, calls.len())?;
+    let mut all = ArrayVec::new();
     for call in calls {
-        all.push(u64::from(addend_of(call.op)))?;
+        all.push(u64::from(addend_of(call.op)));
     }
-    Ok(all)
+    all
 }
 
-/// Cuts the calls into at most 16 pieces. Each has a sixteenth of the calls, rounded up; the last may be shorter.
+/// Cuts the calls into at most 16 pieces. Each has a sixteenth of the calls, rounded up; the last may be shorter. A
+/// batch has at most 32 calls, so a piece has at most 2.
 pub(crate) fn pieces_of(alloc: Global, calls: &[Call]) -> Result<Vec<Piece>, AllocError>
     requires fits { total (addends calls.now) < 2 ^ 64 }
     requires some { 0 < length calls.now }
+    requires few { length calls.now ≤ 32 }
     ensures cut { IfOk result (λ v. IsCutInto ((length calls.now + 15) / 16) (addends calls.now) (addends_in v.items)) }
     ensures count { IfOk result (λ v. (1 ≤ length v.items) × (length v.items ≤ 16)) }
 {
@@ -41,7 +45,7 @@ pub(crate) fn pieces_of(alloc: Global, calls: &[Call]) -> Result<Vec<Piece>, All
     let mut at = 0;
     'cuts: while at < calls.len() {
         let end = (at + size).min(calls.len());
-        let addends = addends_of(alloc, &calls[at..end])?;
+        let addends = addends_of(&calls[at..end]);
         pieces.push(Piece { addends })?;
         at = end;
     }

@@ -2,17 +2,20 @@
 ghost use Rattle.std.specs.Prelude.{◌<◌, ◌^◌};
 ghost use Rattle.batched_counter.specs.Sums.{total};
 
-/// The addends of consecutive calls. They are as wide as their sums, so that the prefix sums can overwrite them.
+use arrayvec::ArrayVec;
+
+/// The addends of at most 2 consecutive calls, held in place. They are as wide as their sums, so that the prefix sums
+/// can overwrite them.
 #[derive(Drop)]
 pub struct Piece {
-    pub addends: Vec<u64>,
+    pub addends: ArrayVec<u64, 2>,
     ghost fits: { total addends.items < 2 ^ 64 },
 }
 
 /// The prefix sums of a piece's addends, each including its own addend, and their total.
 #[derive(Drop)]
 pub struct Served {
-    pub prefixes: Vec<u64>,
+    pub prefixes: ArrayVec<u64, 2>,
     pub total: u64,
 }
 

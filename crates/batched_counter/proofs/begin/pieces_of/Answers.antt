@@ -8,7 +8,7 @@ use Rattle.batched_counter.proofs.BeginLemmas.Pieces.{total_part, one_more, adde
 use Rattle.batched_counter.proofs.begin.pieces_of.Goals as goal
 
 pub invariant_of-push : goal.invariant_of-push
-invariant_of-push c = rw (c.in_ok-addends.ensures, addends_part) (record { fits = total_part _ _ _ (addends c.args.calls.now) c.requires.fits })
+invariant_of-push c = rw (c.addends_of-addends.ensures, addends_part) (record { fits = total_part _ _ _ (addends c.args.calls.now) c.requires.fits })
 
 far_more : (count size at len end : ℕ) → (count * size ≤ at) ⊎ (at ≡ len) → at < len
     → end ≡ min (at + size) len → ((count + 1) * size ≤ end) ⊎ (end ≡ len)
@@ -35,7 +35,7 @@ cuts-preserved c =
     let e : c.min-end.result ≡ min (c.cuts.at + ((length c.args.calls.now - 1) / 16 + 1)) (length c.args.calls.now) = search rules in
     let e' : c.min-end.result ≡ min (c.cuts.at + ((length c.args.calls.now - 1) / 16 + 1)) (length (addends c.args.calls.now)) = rw len e in
     let lt : c.cuts.at < length (addends c.args.calls.now) = rw len c.cuts-test.true in
-    let piece : c.in_ok-addends.addends.items ≡ take (c.min-end.result - c.cuts.at) (drop c.cuts.at (addends c.args.calls.now)) = c.in_ok-addends.ensures ∙ addends_part (c.min-end.result - c.cuts.at) c.cuts.at c.args.calls.now in
+    let piece : c.addends_of-addends.result.items ≡ take (c.min-end.result - c.cuts.at) (drop c.cuts.at (addends c.args.calls.now)) = c.addends_of-addends.ensures ∙ addends_part (c.min-end.result - c.cuts.at) c.cuts.at c.args.calls.now in
     let s = sixteenth (length c.args.calls.now) c.requires.some in
     rw (c.in_ok-push.ensures.items, addends_in_more, length_more)
     (record {

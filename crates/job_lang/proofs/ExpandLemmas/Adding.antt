@@ -231,7 +231,7 @@ on_ok (Ok x) A B f h = f h
 on_ok (Err e) A B f h = tt
 
 -- the shapes of the copies, with one more
-pub copies_made : (n : ℕ) (f : ℕ → List Tree) (made new more : List Tree) → made ≡ each_copy n f → more ≡ f n → new ≡ made ++ more → new ≡ each_copy (n + 1) f
-copies_made n f made new more e g h =
+pub copies_made : (n : ℕ) (f : ℕ → List Tree) (old now new : List Tree) → now ≡ old ++ each_copy n f → new ≡ now ++ f n → new ≡ old ++ each_copy (n + 1) f
+copies_made n f old now new made more =
     let same : suc n ≡ n + 1 = omega arith in
-    h ∙ ap (λ all. all ++ more) e ∙ ap (λ all. each_copy n f ++ all) g ∙ ap (λ m. each_copy m f) same
+    more ∙ ap (λ all. all ++ f n) made ∙ append_assoc old (each_copy n f) (f n) ∙ ap (λ m. old ++ each_copy m f) same

@@ -57,8 +57,10 @@ shapes_more c xs i x h e = ap (shapes_in c) (items_of_more xs i x h e) ∙ shape
 acts_more : (c : ℕ) (xs : List Item) (i : ℕ) (x : Item) → i < length xs → x ≡ get_or xs i x → acts_in c (items_of (take (i + 1) xs)) ≡ acts_in c (items_of (take i xs)) ++ acts_in c (item_of x)
 acts_more c xs i x h e = ap (acts_in c) (items_of_more xs i x h e) ∙ acts_then c (items_of (take i xs)) (item_of x)
 
-pub shapes_step : (c : ℕ) (xs : List Item) (i : ℕ) (x : Item) (made new more : List Tree) → made ≡ shapes_in c (items_of (take i xs)) → x ≡ get_or xs i x → i < length xs → more ≡ shapes_in c (item_of x) → new ≡ made ++ more → new ≡ shapes_in c (items_of (take (i + 1) xs))
-shapes_step c xs i x made new more e f h z n = n ∙ ap (λ y. made ++ y) z ∙ ap (λ y. y ++ shapes_in c (item_of x)) e ∙ sym (shapes_more c xs i x h f)
+pub shapes_step : (c : ℕ) (xs : List Item) (i : ℕ) (x : Item) (old now new : List Tree) → now ≡ old ++ shapes_in c (items_of (take i xs)) → x ≡ get_or xs i x → i < length xs → new ≡ now ++ shapes_in c (item_of x) → new ≡ old ++ shapes_in c (items_of (take (i + 1) xs))
+shapes_step c xs i x old now new e f h n =
+    n ∙ ap (λ y. y ++ shapes_in c (item_of x)) e ∙ append_assoc old (shapes_in c (items_of (take i xs))) (shapes_in c (item_of x))
+    ∙ ap (λ y. old ++ y) (sym (shapes_more c xs i x h f))
 
 pub acts_step : (c : ℕ) (xs : List Item) (i : ℕ) (x : Item) (old now new : List Act) → now ≡ old ++ acts_in c (items_of (take i xs)) → x ≡ get_or xs i x → i < length xs → new ≡ now ++ acts_in c (item_of x) → new ≡ old ++ acts_in c (items_of (take (i + 1) xs))
 acts_step c xs i x old now new e f h n =

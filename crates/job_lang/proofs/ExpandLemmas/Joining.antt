@@ -1,10 +1,15 @@
 -- Lists of shapes that are joined in halves.
-use Rattle.std.proofs.Common.{◌≡◌, ℕ, zero, suc, ◌+◌, ◌-◌, ◌/◌, ◌≤◌, List, [], ◌∷◌, length, map, take, drop, Option, Some, refl, sym, ap, ◌∙◌, arith, length-take, length-drop}
+use Rattle.std.proofs.Common.{◌≡◌, ℕ, zero, suc, ◌+◌, ◌-◌, ◌/◌, ◌<◌, ◌≤◌, List, [], ◌∷◌, ◌++◌, length, map, take, drop, Option, Some, refl, sym, ap, ◌∙◌, arith, append-nil, length-take, length-drop}
+use Rattle.std.specs.Prelude.{option_to_list}
 use Rattle.std.specs.Option.{option_map}
-use Rattle.std.proofs.lemmas.List.{take-map, drop-map, length-map, drop-take, drop-drop}
+use Rattle.std.proofs.Math.Seq.{take-append_seam, drop-append_seam}
+use Rattle.std.proofs.lemmas.List.{map-append, take-map, drop-map, length-map, drop-take, drop-drop}
 use Rattle.sp_order.specs.declared.shape.Shape.{Shape}
-use Rattle.sp_order.specs.Precedence.{Tree, tree_of}
+use Rattle.sp_order.specs.Precedence.{Tree, tree_of, seq, par}
+use Rattle.job_syntax.specs.Grammar.{Items, nothing, block_then, BlockKind, seq_block, par_block, for_loop, pfor_loop}
 use Rattle.job_lang.specs.Joins.{join_within, join_of, both, half}
+use Rattle.job_lang.specs.Meaning.{shapes_in, join_list}
+use Rattle.job_lang.specs.Code.Orders.{join_in, shapes_inside}
 
 -- all sufficient bounds give the same join
 enough : (kind : Tree → Tree → Tree) (n m : ℕ) (xs : List Tree) → length xs ≤ n → length xs ≤ m → join_within kind n xs ≡ join_within kind m xs
@@ -61,3 +66,40 @@ join_last_halves kind old mid count left right many enough is r l =
     let back : drop (length old - count / 2) old ≡ drop (half (length xs)) xs =
     ap (λ k. drop k old) cut ∙ sym (drop-drop few rest old) ∙ ap (λ k. drop k xs) size in
     join_halves kind xs (drop (length mid - few) mid) (drop (length old - count / 2) old) (Some left) (Some right) (simp length-drop (omega (arith, enough, many))) front back l r
+
+-- fewer than two shapes are joined as they stand
+pub few_joined : (kind : Tree → Tree → Tree) (before : ℕ) (xs : List Shape) → before ≤ length xs → length xs - before < 2
+    → map tree_of xs ≡ map tree_of (take before xs) ++ join_list kind (map tree_of (drop before xs))
+few_joined kind zero [] within few = refl
+few_joined kind zero (x ∷ []) within few = refl
+few_joined kind zero (x ∷ y ∷ zs) within few = absurd (omega (arith, few))
+few_joined kind (suc before) [] within few = absurd (omega (arith, within))
+few_joined kind (suc before) (x ∷ xs) within few = ap (λ trees. tree_of x ∷ trees) (few_joined kind before xs (omega (arith, within)) (omega (arith, few)))
+
+-- the last shapes of a list are taken off, and the shape that joins them is put back
+pub many_joined : (kind : Tree → Tree → Tree) (old rest new : List Shape) (before count : ℕ) (shape : Shape) → before ≤ length old → count ≡ length old - before
+    → rest ≡ take (length old - count) old → Some (tree_of shape) ≡ join_of kind (map tree_of (drop (length old - count) old)) → new ≡ rest ++ shape ∷ []
+    → map tree_of new ≡ map tree_of (take before old) ++ join_list kind (map tree_of (drop before old))
+many_joined kind old rest new before count shape within is left joined pushed =
+    let at : length old - count ≡ before = omega (arith, within, is) in
+    ap (map tree_of) (pushed ∙ ap (λ xs. xs ++ shape ∷ []) (left ∙ ap (λ k. take k old) at)) ∙ map-append tree_of (take before old) (shape ∷ [])
+    ∙ ap (λ o. map tree_of (take before old) ++ option_to_list o) (joined ∙ ap (λ k. join_of kind (map tree_of (drop k old))) at)
+
+-- shapes that are put behind others, and joined there
+pub joined_behind : (kind : Tree → Tree → Tree) (old now new : List Shape) (made : List Tree) (before : ℕ) → before ≡ length old → map tree_of now ≡ map tree_of old ++ made
+    → map tree_of new ≡ map tree_of (take before now) ++ join_list kind (map tree_of (drop before now))
+    → map tree_of new ≡ map tree_of old ++ join_list kind made
+joined_behind kind old now new made before is grown joined =
+    let at : before ≡ length (map tree_of old) = is ∙ sym (length-map old tree_of) in
+    let front : map tree_of (take before now) ≡ map tree_of old =
+    sym (take-map tree_of before now) ∙ ap (take before) grown ∙ ap (λ k. take k (map tree_of old ++ made)) at ∙ take-append_seam (map tree_of old) made in
+    let back : map tree_of (drop before now) ≡ made =
+    sym (drop-map tree_of before now) ∙ ap (drop before) grown ∙ ap (λ k. drop k (map tree_of old ++ made)) at ∙ drop-append_seam (map tree_of old) made in
+    joined ∙ ap (λ trees. trees ++ join_list kind (map tree_of (drop before now))) front ∙ ap (λ trees. map tree_of old ++ join_list kind trees) back
+
+-- what a block joins is the shape of the block
+pub joined_block : (c : ℕ) (kind : BlockKind) (body : Items) → join_list (join_in kind) (shapes_inside c kind body) ≡ shapes_in c (block_then kind body nothing)
+joined_block c seq_block body = sym (append-nil (join_list seq (shapes_in c body)))
+joined_block c par_block body = sym (append-nil (join_list par (shapes_in c body)))
+joined_block c (for_loop n) body = sym (append-nil (join_list seq (shapes_inside c (for_loop n) body)))
+joined_block c (pfor_loop n) body = sym (append-nil (join_list par (shapes_inside c (pfor_loop n) body)))

@@ -1,8 +1,9 @@
 //! Joins a list of shapes to one, by halves, so that the depth grows with the logarithm of their number.
-ghost use Rattle.std.specs.Prelude.{◌≡◌, ◌<◌, ◌≤◌, ◌-◌, Some, IfOk, length, map, take, drop};
+ghost use Rattle.std.specs.Prelude.{◌≡◌, ◌<◌, ◌≤◌, ◌-◌, ◌++◌, Some, IfOk, OnOk, length, map, take, drop};
 ghost use Rattle.std.specs.Option.{option_map};
 ghost use Rattle.sp_order.specs.Precedence.{tree_of};
 ghost use Rattle.job_lang.specs.Joins.{join_of};
+ghost use Rattle.job_lang.specs.Meaning.{join_list};
 ghost use Rattle.job_lang.specs.Code.Orders.{join_by};
 
 use sp_order::Shape;
@@ -52,6 +53,28 @@ fn join_last(
     let right = join_last(alloc, order, shapes, count / 2)?;
     let left = join_last(alloc, order, shapes, count - count / 2)?;
     both(alloc, order, left, right)
+}
+
+/// Joins the shapes behind the first `before` to one in their place, if there are any.
+pub(crate) fn join_from(
+    alloc: Global,
+    order: Order,
+    shapes: &mut Vec<Shape>,
+    before: usize,
+) -> Result<(), AllocError>
+    requires { before ≤ length shapes.old.items }
+    ensures { OnOk result
+        (map tree_of shapes.new.items
+        ≡ map tree_of (take before shapes.old.items)
+        ++ join_list (join_by order) (map tree_of (drop before shapes.old.items))) }
+{
+    let count = shapes.len() - before;
+    if count < 2 {
+        return Ok(());
+    }
+    let shape = join_last(alloc, order, shapes, count)?;
+    shapes.push(shape)?;
+    Ok(())
 }
 
 /// Joins all the shapes, if there are any.

@@ -1,4 +1,4 @@
-use Rattle.std.proofs.Common.{◌≡◌, [], length, sym, ap, subst, true, ◌∙◌, arith}
+use Rattle.std.proofs.Common.{◌≡◌, [], ◌++◌, map, length, sym, ap, subst, true, ◌∙◌, arith}
 use Rattle.std.specs.Option.{option_map}
 use Rattle.std.proofs.lemmas.Result.{IfOk-weaker}
 use Rattle.sp_order.specs.Precedence.{tree_of, seq}
@@ -33,9 +33,11 @@ pub with_sources-requires-clause-sources : goal.with_sources-requires-clause-sou
 with_sources-requires-clause-sources c =
     let items = items_of c.args.items.items in
     let pruned : items_of c.deref.result.now ≡ without_empty items = ap items_of c.deref.ensures.value ∙ c.take_out_empty.ensures in
-    let adds : Adds 0 (without_empty items) c.new-leaves.result c.shapes_in.new.leaves = subst (λ all. Adds 0 all c.new-leaves.result c.shapes_in.new.leaves) pruned c.in_ok-shapes.ensures.leaves in
+    let adds : Adds 0 (without_empty items) c.new-leaves.result c.shapes_in.new.leaves = subst (λ all. Adds 0 all c.new-leaves.result c.shapes_in.new.leaves) pruned c.in_ok-shapes_in.ensures.leaves in
     let made = from_nothing (without_empty items) c.new-leaves.result c.shapes_in.new.leaves c.new-leaves.ensures.acts c.new-leaves.ensures.sources c.new-leaves.ensures.scope c.new-leaves.ensures.objects adds in
-    let shape : option_map tree_of c.in_ok-shape.shape ≡ join_of seq (shapes_in 0 items) = c.in_ok-shape.ensures ∙ ap (join_of seq) (c.in_ok-shapes.ensures.shapes ∙ ap (shapes_in 0) pruned ∙ same_shapes items 0) in
+    let made_shapes : map tree_of c.shapes_in.new.shapes.items ≡ shapes_in 0 (items_of c.deref.result.now) =
+    c.in_ok-shapes_in.ensures.shapes ∙ ap (λ none. map tree_of none ++ shapes_in 0 (items_of c.deref.result.now)) c.new-shapes.ensures.items in
+    let shape : option_map tree_of c.in_ok-shape.shape ≡ join_of seq (shapes_in 0 items) = c.in_ok-shape.ensures ∙ ap (join_of seq) (made_shapes ∙ ap (shapes_in 0) pruned ∙ same_shapes items 0) in
     let acts : c.shapes_in.new.leaves.acts.items ≡ acts_in 0 items = made.0 ∙ same_acts items 0 in
     let sources : c.shapes_in.new.leaves.sources.items ≡ sources_in true [] 0 items = made.1 ∙ same_sources items true [] 0 in
     subst (λ s. AreSources s c.shapes_in.new.leaves.acts.items c.shapes_in.new.leaves.sources.items) (sym shape)
@@ -46,7 +48,7 @@ pub with_sources-requires-clause-unnamed : goal.with_sources-requires-clause-unn
 with_sources-requires-clause-unnamed c =
     let items = items_of c.args.items.items in
     let pruned : items_of c.deref.result.now ≡ without_empty items = ap items_of c.deref.ensures.value ∙ c.take_out_empty.ensures in
-    let adds : Adds 0 (without_empty items) c.new-leaves.result c.shapes_in.new.leaves = subst (λ all. Adds 0 all c.new-leaves.result c.shapes_in.new.leaves) pruned c.in_ok-shapes.ensures.leaves in
+    let adds : Adds 0 (without_empty items) c.new-leaves.result c.shapes_in.new.leaves = subst (λ all. Adds 0 all c.new-leaves.result c.shapes_in.new.leaves) pruned c.in_ok-shapes_in.ensures.leaves in
     let made = from_nothing (without_empty items) c.new-leaves.result c.shapes_in.new.leaves c.new-leaves.ensures.acts c.new-leaves.ensures.sources c.new-leaves.ensures.scope c.new-leaves.ensures.objects adds in
     let acts : c.shapes_in.new.leaves.acts.items ≡ acts_in 0 items = made.0 ∙ same_acts items 0 in
     subst AreUnnamed (sym acts) (are_unnamed (acts_in 0 items) (objects_in items) (items_name items 0))
@@ -55,7 +57,7 @@ pub called_in-requires : goal.called_in-requires
 called_in-requires c =
     let items = items_of c.args.items.items in
     let pruned : items_of c.deref.result.now ≡ without_empty items = ap items_of c.deref.ensures.value ∙ c.take_out_empty.ensures in
-    let adds : Adds 0 (without_empty items) c.new-leaves.result c.shapes_in.new.leaves = subst (λ all. Adds 0 all c.new-leaves.result c.shapes_in.new.leaves) pruned c.in_ok-shapes.ensures.leaves in
+    let adds : Adds 0 (without_empty items) c.new-leaves.result c.shapes_in.new.leaves = subst (λ all. Adds 0 all c.new-leaves.result c.shapes_in.new.leaves) pruned c.in_ok-shapes_in.ensures.leaves in
     let made = from_nothing (without_empty items) c.new-leaves.result c.shapes_in.new.leaves c.new-leaves.ensures.acts c.new-leaves.ensures.sources c.new-leaves.ensures.scope c.new-leaves.ensures.objects adds in
     let acts : c.shapes_in.new.leaves.acts.items ≡ acts_in 0 items = made.0 ∙ same_acts items 0 in
     let objects = c.shapes_in.new.leaves.objects in
@@ -78,9 +80,11 @@ pub returns : goal.returns
 returns c =
     let items = items_of c.args.items.items in
     let pruned : items_of c.deref.result.now ≡ without_empty items = ap items_of c.deref.ensures.value ∙ c.take_out_empty.ensures in
-    let adds : Adds 0 (without_empty items) c.new-leaves.result c.shapes_in.new.leaves = subst (λ all. Adds 0 all c.new-leaves.result c.shapes_in.new.leaves) pruned c.in_ok-shapes.ensures.leaves in
+    let adds : Adds 0 (without_empty items) c.new-leaves.result c.shapes_in.new.leaves = subst (λ all. Adds 0 all c.new-leaves.result c.shapes_in.new.leaves) pruned c.in_ok-shapes_in.ensures.leaves in
     let made = from_nothing (without_empty items) c.new-leaves.result c.shapes_in.new.leaves c.new-leaves.ensures.acts c.new-leaves.ensures.sources c.new-leaves.ensures.scope c.new-leaves.ensures.objects adds in
-    let shape : option_map tree_of c.in_ok-shape.shape ≡ join_of seq (shapes_in 0 items) = c.in_ok-shape.ensures ∙ ap (join_of seq) (c.in_ok-shapes.ensures.shapes ∙ ap (shapes_in 0) pruned ∙ same_shapes items 0) in
+    let made_shapes : map tree_of c.shapes_in.new.shapes.items ≡ shapes_in 0 (items_of c.deref.result.now) =
+    c.in_ok-shapes_in.ensures.shapes ∙ ap (λ none. map tree_of none ++ shapes_in 0 (items_of c.deref.result.now)) c.new-shapes.ensures.items in
+    let shape : option_map tree_of c.in_ok-shape.shape ≡ join_of seq (shapes_in 0 items) = c.in_ok-shape.ensures ∙ ap (join_of seq) (made_shapes ∙ ap (shapes_in 0) pruned ∙ same_shapes items 0) in
     let acts : c.shapes_in.new.leaves.acts.items ≡ acts_in 0 items = made.0 ∙ same_acts items 0 in
     let sources : c.shapes_in.new.leaves.sources.items ≡ sources_in true [] 0 items = made.1 ∙ same_sources items true [] 0 in
     let objects = c.shapes_in.new.leaves.objects in

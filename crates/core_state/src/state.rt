@@ -11,6 +11,7 @@ use batch_history::History;
 use core_model::{CallState, Progress, Status, Task};
 use launch_batch::Shop;
 use ready_lists::ReadyLists;
+use seq_objects::Call;
 
 /// The state of a core. `nodes`, `marks` and `values` are indexed by node; `tasks`, `statuses`, `calls` and `ready` by
 /// worker.
@@ -37,6 +38,8 @@ pub struct State {
     /// The shared structures with the batches they have served. `None` after an allocation failed while a batch was
     /// served.
     pub shop: Option<Shop>,
+    /// The calls of the last batch. The next one uses their memory.
+    pub last_calls: Vec<Call>,
 }
 
 /// Whether the progress is `Done` or `Ran`.

@@ -9,7 +9,7 @@ ghost use Rattle.launch_batch.specs.Contexts.{IsContextOf};
 ghost use Rattle.launch_batch.specs.Code.Rows.{FitInRows, AreApart, places_of_rows};
 
 use crate::opened::Opened;
-use crate::order::in_batch_order;
+use crate::order::put_in_batch_order;
 use crate::pieces::Rows;
 use crate::row::open;
 use crate::shop::Shop;
@@ -23,7 +23,11 @@ use std::alloc::{AllocError, Global};
 impl Shop {
     /// Opens a batch of these calls, given in any order, and returns also the pieces of the structures that they call.
     /// The shop is lost if memory runs out.
-    pub(crate) fn open(self, alloc: Global, calls: Vec<Call>) -> Result<(Opened, Rows), AllocError>
+    pub(crate) fn open(
+        self,
+        alloc: Global,
+        mut calls: Vec<Call>,
+    ) -> Result<(Opened, Rows), AllocError>
         requires { MayServe self calls.items }
         ensures fit { IfOk result (λ p. FitInRows p.1) }
         ensures places { IfOk result (λ p. (ordered : List CallOf) × ArePermutations calls.items ordered
@@ -35,7 +39,7 @@ impl Shop {
             mut structures,
             history,
         } = self;
-        let calls = in_batch_order(alloc, calls)?;
+        put_in_batch_order(alloc, &mut calls)?;
         let all = calls.as_slice();
         let inner = &mut *structures;
         let counter = open::<Counter>(alloc, &mut inner.counter, all)?;

@@ -22,16 +22,17 @@ use std::alloc::{AllocError, Global};
 /// The structures of one kind.
 pub type RowOf<T> = Row<T, <T as Batched>::Rest>;
 
-/// True implies that all calls belong to the row.
-fn are_all_of<T: Kind>(calls: &[Call]) -> bool
-    ensures { result ≡ true → calls_of T.kind calls.now ≡ calls.now }
+/// How many calls belong to the row.
+fn count_of<T: Kind>(calls: &[Call]) -> usize
+    ensures { result ≡ length (calls_of T.kind calls.now) }
 {
+    let mut count = 0;
     for place in 0..calls.len() {
-        if !T::has(calls[place].op) {
-            return false;
+        if T::has(calls[place].op) {
+            count += 1;
         }
     }
-    true
+    count
 }
 
 /// The calls that belong to the row, in their order: all that are given, or those that it puts into `own`, which is
@@ -43,15 +44,17 @@ fn calls_of<'a, T: Kind>(
     requires { own.old.items ≡ [] }
     ensures { IfOk result (λ v. v.now ≡ calls_of T.kind calls.now) }
 {
-    if are_all_of::<T>(calls) {
+    let count = count_of::<T>(calls);
+    if count == calls.len() {
         return Ok(calls);
     }
+    if count == 0 {
+        return Ok(own.as_slice());
+    }
+    own.reserve_exact(count)?;
     for place in 0..calls.len() {
         let call = calls[place];
         if T::has(call.op) {
-            if own.is_empty() {
-                own.reserve_exact(calls.len() - place)?;
-            }
             own.push(call)?;
         }
     }

@@ -5,7 +5,7 @@ ghost use Rattle.launch_batch.specs.Calls.{MayServe, IsServiceOf};
 
 use crate::commit::commit;
 use crate::merge::ReplyCursors;
-use crate::order::in_batch_order;
+use crate::order::put_in_batch_order;
 use crate::row;
 use crate::shop::Shop;
 use batched_counter::Counter;
@@ -16,17 +16,17 @@ use seq_objects::Call;
 use std::alloc::{AllocError, Global};
 
 /// Serves the calls as one batch, kind by kind, running the pieces of each one after another. The batch becomes the
-/// last of the shop's history. The shop is lost if memory runs out.
-pub fn serve(alloc: Global, shop: Shop, calls: Vec<Call>) -> Result<Shop, AllocError>
-    requires { MayServe shop calls.items }
+/// last of the shop's history, and the calls are put in batch order. The shop is lost if memory runs out.
+pub fn serve(alloc: Global, shop: Shop, calls: &mut Vec<Call>) -> Result<Shop, AllocError>
+    requires { MayServe shop calls.old.items }
     ensures { IfOk result (λ s. (batch : List EntryOf)
-        × IsServiceOf shop calls.items batch × (s ≡ shop ++ batch ∷ [])) }
+        × IsServiceOf shop calls.old.items batch × (s ≡ shop ++ batch ∷ [])) }
 {
     let Shop {
         mut structures,
         history,
     } = shop;
-    let calls = in_batch_order(alloc, calls)?;
+    put_in_batch_order(alloc, calls)?;
     let all = calls.as_slice();
     let inner = &mut *structures;
     let replies = ReplyCursors {

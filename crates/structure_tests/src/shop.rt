@@ -39,8 +39,8 @@ fn serve_ops(alloc: Global, shop: Shop, first: u32, ops: &[Op]) -> Result<Shop, 
     requires below { IsBelow first shop }
     ensures { IfOk result (λ next. IsBelow (first + 32) next) }
 {
-    let calls = calls_from(alloc, first, ops)?;
-    let next = serve(alloc, shop, calls)?;
+    let mut calls = calls_from(alloc, first, ops)?;
+    let next = serve(alloc, shop, &mut calls)?;
     Ok(next)
 }
 

@@ -55,6 +55,7 @@ impl State {
             hold: None,
             tick: 0,
             shop: Some(Shop::new(alloc)?),
+            last_calls: Vec::new(alloc),
         })
     }
 }

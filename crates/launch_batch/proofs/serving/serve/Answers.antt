@@ -9,8 +9,8 @@ pub serve-requires-clause-may : goal.serve-requires-clause-may
 serve-requires-clause-may c = λ lifetimes number.
     let i = c.shop.invariant in
     rw (c.deref_mut-inner.ensures.value, c.as_slice-all.ensures.value)
-    (subst (λ objects. MayAdd objects (calls_at number (calls_of Counter c.in_ok-calls.calls.items))) (sym (i.counter.contents number))
-    (may_add c.shop.inside.history c.args.calls.items c.in_ok-calls.calls.items number _ (rw c.shop.view_is c.requires) c.in_ok-calls.ensures.same c.in_ok-calls.ensures.narrow (i.room number)))
+    (subst (λ objects. MayAdd objects (calls_at number (calls_of Counter c.put_in_batch_order.new.calls.items))) (sym (i.counter.contents number))
+    (may_add c.shop.inside.history c.args.calls.now.items c.put_in_batch_order.new.calls.items number _ (rw c.shop.view_is c.requires) c.in_ok-put_in_batch_order.ensures.same c.in_ok-put_in_batch_order.ensures.narrow (i.room number)))
 
 pub serve-requires-2-clause-may : goal.serve-requires-2-clause-may
 serve-requires-2-clause-may c = λ lifetimes number. own_at Stack number c.as_slice-all.result.now
@@ -24,17 +24,17 @@ serve-requires-4-clause-may c = λ lifetimes number. own_at Queue number c.as_sl
 pub commit-requires : goal.commit-requires
 commit-requires c =
     rw c.as_slice-all.ensures.value (
-      c.args.calls.items,
-      have_served_own c.shop.inside.structures.value c.shop.inside.history c.args.calls.items c.in_ok-calls.calls.items c.shop.invariant
-          (record { may = rw c.shop.view_is c.requires; same = c.in_ok-calls.ensures.same; order = c.in_ok-calls.ensures.batch.order; narrow = c.in_ok-calls.ensures.narrow })
+      c.args.calls.now.items,
+      have_served_own c.shop.inside.structures.value c.shop.inside.history c.args.calls.now.items c.put_in_batch_order.new.calls.items c.shop.invariant
+          (record { may = rw c.shop.view_is c.requires; same = c.in_ok-put_in_batch_order.ensures.same; order = c.in_ok-put_in_batch_order.ensures.batch.order; narrow = c.in_ok-put_in_batch_order.ensures.narrow })
           _ _ _ _ c.deref_mut-inner.ensures.value c.as_slice-all.ensures.value
           c.in_ok-serve.ensures c.in_ok-serve-2.ensures c.in_ok-serve-3.ensures c.in_ok-serve-4.ensures,
     )
 
 pub returns : goal.returns
 returns c =
-    rw (sym c.shop.view_is) (c.in_ok-next.ensures c.args.calls.items (rw c.as_slice-all.ensures.value
-    (have_served_own c.shop.inside.structures.value c.shop.inside.history c.args.calls.items c.in_ok-calls.calls.items c.shop.invariant
-    (record { may = rw c.shop.view_is c.requires; same = c.in_ok-calls.ensures.same; order = c.in_ok-calls.ensures.batch.order; narrow = c.in_ok-calls.ensures.narrow })
+    rw (sym c.shop.view_is) (c.in_ok-next.ensures c.args.calls.now.items (rw c.as_slice-all.ensures.value
+    (have_served_own c.shop.inside.structures.value c.shop.inside.history c.args.calls.now.items c.put_in_batch_order.new.calls.items c.shop.invariant
+    (record { may = rw c.shop.view_is c.requires; same = c.in_ok-put_in_batch_order.ensures.same; order = c.in_ok-put_in_batch_order.ensures.batch.order; narrow = c.in_ok-put_in_batch_order.ensures.narrow })
     _ _ _ _ c.deref_mut-inner.ensures.value c.as_slice-all.ensures.value
     c.in_ok-serve.ensures c.in_ok-serve-2.ensures c.in_ok-serve-3.ensures c.in_ok-serve-4.ensures)))

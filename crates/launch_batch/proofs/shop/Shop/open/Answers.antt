@@ -14,8 +14,8 @@ pub open-requires-clause-may : goal.open-requires-clause-may
 open-requires-clause-may c = λ lifetimes number.
     let i = c.self.invariant in
     rw (c.deref_mut-inner.ensures.value, c.as_slice-all.ensures.value)
-    (subst (λ objects. MayAdd objects (calls_at number (calls_of Counter c.in_ok-calls.calls.items))) (sym (i.counter.contents number))
-    (may_add c.self.inside.history c.args.calls.items c.in_ok-calls.calls.items number _ (rw c.self.view_is c.requires) c.in_ok-calls.ensures.same c.in_ok-calls.ensures.narrow (i.room number)))
+    (subst (λ objects. MayAdd objects (calls_at number (calls_of Counter c.put_in_batch_order.new.calls.items))) (sym (i.counter.contents number))
+    (may_add c.self.inside.history c.args.calls.items c.put_in_batch_order.new.calls.items number _ (rw c.self.view_is c.requires) c.in_ok-put_in_batch_order.ensures.same c.in_ok-put_in_batch_order.ensures.narrow (i.room number)))
 
 pub open-requires-2-clause-may : goal.open-requires-2-clause-may
 open-requires-2-clause-may c = λ lifetimes number. own_at Stack number c.as_slice-all.result.now
@@ -43,7 +43,7 @@ returns-clause-fit c = record {
   some = some_rows _ _ _ _ _ _ _ _
       c.in_ok-counter.ensures.some c.in_ok-stack.ensures.some c.in_ok-tree.ensures.some c.in_ok-queue.ensures.some
       (rw c.as_slice-all.ensures.value
-      (some_by_kind c.args.calls.items c.in_ok-calls.calls.items c.in_ok-calls.ensures.same c.requires.some));
+      (some_by_kind c.args.calls.items c.put_in_batch_order.new.calls.items c.in_ok-put_in_batch_order.ensures.same c.requires.some));
   counter = c.in_ok-counter.ensures.most;
   stack = c.in_ok-stack.ensures.most;
   tree = c.in_ok-tree.ensures.most;
@@ -53,10 +53,10 @@ returns-clause-fit c = record {
 pub returns-clause-places : goal.returns-clause-places
 returns-clause-places c =
     let i = c.self.invariant in
-    let ordered = c.in_ok-calls.calls.items in (
+    let ordered = c.put_in_batch_order.new.calls.items in (
       ordered,
-      c.in_ok-calls.ensures.same,
-      c.in_ok-calls.ensures.batch.order,
+      c.in_ok-put_in_batch_order.ensures.same,
+      c.in_ok-put_in_batch_order.ensures.batch.order,
       rows_are c.args.self ordered c.in_ok-counter.counter.items c.in_ok-stack.stack.items c.in_ok-tree.tree.items c.in_ok-queue.queue.items
           (cut_for of_counter Counter CounterCut c.self.inside.structures.value.counter c.args.self (calls_of Counter ordered) c.in_ok-counter.counter.items
           (subst (MatchesHistory of_counter Counter c.self.inside.structures.value.counter) c.self.view_is i.counter) (rw (c.deref_mut-inner.ensures.value, c.as_slice-all.ensures.value) at c.in_ok-counter.ensures.cut))
@@ -71,14 +71,14 @@ returns-clause-places c =
 pub returns-clause-context : goal.returns-clause-context
 returns-clause-context c = λ ins apart.
     let i = c.self.invariant in
-    let ordered = c.in_ok-calls.calls.items in
+    let ordered = c.put_in_batch_order.new.calls.items in
     record {
       book = c.self.view_is;
       given = record {
         may = c.requires;
-        same = c.in_ok-calls.ensures.same;
-        order = c.in_ok-calls.ensures.batch.order;
-        narrow = c.in_ok-calls.ensures.narrow;
+        same = c.in_ok-put_in_batch_order.ensures.same;
+        order = c.in_ok-put_in_batch_order.ensures.batch.order;
+        narrow = c.in_ok-put_in_batch_order.ensures.narrow;
       };
       room = subst HasRoom c.self.view_is i.room;
       counter = context_for of_counter Counter IsCounterContext c.self.inside.structures.value.counter _ c.args.self (calls_of Counter ordered) c.in_ok-counter.counter.items _

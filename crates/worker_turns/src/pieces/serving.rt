@@ -1,5 +1,5 @@
 //! How the combiner hands out the pieces of a batch and collects their results.
-ghost use Rattle.std.specs.Prelude.{◌≡◌, ◌<◌, ℕ, List, [], ◌∷◌, length, map, IfOk, IfErr};
+ghost use Rattle.std.specs.Prelude.{◌≡◌, ◌<◌, ◌≤◌, ℕ, List, [], ◌∷◌, length, map, IfOk, IfErr};
 ghost use Rattle.std.specs.List.{AllByRecursion};
 ghost use Rattle.seq_objects.specs.Orders.{StrictlyAscends};
 ghost use Rattle.seq_objects.specs.Pieces.{AllMeet};
@@ -17,6 +17,7 @@ ghost use Rattle.worker_turns.specs.Stops.{HasOnlyLooked, IsStop};
 use crate::attempts::PieceAttempt;
 use crate::back_off::back_off;
 use crate::pieces::{pop_own_piece, steal_other_piece};
+use arrayvec::ArrayVec;
 use bt_io::Pause;
 use crossbeam_utils::Backoff;
 use launch_batch::{PieceIn, PieceOut};
@@ -28,13 +29,13 @@ use worker_crew::{Crew, Me, Stop};
 /// Posts each piece at its place in the worker's own row, and pushes its spot on the worker's own deque of pieces.
 /// Returns the places.
 fn post_all<G: Pause>(
-    alloc: Global,
     crew: &Crew<G>,
     me: &mut Me,
     ins: Vec<PieceIn>,
-) -> Result<Vec<u32>, Stop>
+) -> Result<ArrayVec<u32, 56>, Stop>
     requires me { IsMeOf crew.now.table crew.now.decks crew.now.board me.old }
     requires free { (desk_view me.old.desk).posted ≡ [] }
+    requires few { length ins.items ≤ 56 }
     requires below { AllByRecursion (λ input. place_of input < 56) ins.items }
     requires ascend { StrictlyAscends (map place_of ins.items) }
     ensures me { IfOk result (λ _. IsMeOf crew.now.table crew.now.decks crew.now.board me.new) }
@@ -45,10 +46,10 @@ fn post_all<G: Pause>(
     ensures failed { IfErr result (λ stop. stop ≡ Memory) }
 {
     let row = me.hand.worker();
-    let mut places = Vec::with_capacity(alloc, ins.len())?;
+    let mut places = ArrayVec::new();
     for input in ins {
         let place = input.place();
-        places.push(place)?;
+        places.push(place);
         crew.board.post(&mut me.desk, place, input);
         let spot = Spot { row, place };
         if crew.decks.push_piece(&mut me.hand, spot).is_err() {
@@ -149,6 +150,7 @@ pub(crate) fn serve_pieces<G: Pause, R: Wait>(
 ) -> Result<Vec<PieceOut>, Stop>
     requires me { IsMeOf crew.now.table crew.now.decks crew.now.board me.old }
     requires free { (desk_view me.old.desk).posted ≡ [] }
+    requires few { length ins.items ≤ 56 }
     requires below { AllByRecursion (λ input. place_of input < 56) ins.items }
     requires ascend { StrictlyAscends (map place_of ins.items) }
     ensures pass { IsPassOf crew.now.table me.new.pass }
@@ -160,7 +162,7 @@ pub(crate) fn serve_pieces<G: Pause, R: Wait>(
     ensures seen { IfOk result (λ _. HasOnlyLooked (pass_view me.old.pass) (pass_view me.new.pass)) }
     ensures stopped { IfErr result (λ stop. IsStop stop (pass_view me.old.pass) (pass_view me.new.pass)) }
 {
-    let places = post_all(alloc, crew, me, ins)?;
+    let places = post_all(crew, me, ins)?;
     run_own(alloc, crew, me)?;
-    collect_all(rt, alloc, crew, me, &places)
+    collect_all(rt, alloc, crew, me, places.as_slice())
 }

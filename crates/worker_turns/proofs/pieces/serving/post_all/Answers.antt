@@ -1,6 +1,6 @@
-use Rattle.std.proofs.Common.{rules, ◌≡◌, ◌<◌, ◌∷◌, ◌++◌, [], map, sym, ap, ◌∙◌, subst, arith, ℕ, List}
+use Rattle.std.proofs.Common.{rules, ◌≡◌, ◌<◌, ◌∷◌, ◌++◌, [], length, map, sym, ap, ◌∙◌, subst, arith, ℕ, List, length-append}
 use Rattle.std.proofs.lemmas.Grind.{common_steps}
-use Rattle.std.proofs.lemmas.List.{map-append}
+use Rattle.std.proofs.lemmas.List.{map-append, length-map}
 use Rattle.std.specs.List.{AllByRecursion}
 use Rattle.seq_objects.specs.Orders.{StrictlyAscends}
 use Rattle.seq_objects.proofs.Elements.{each_right}
@@ -26,6 +26,15 @@ post-requires-clause-free g c =
     let free = free_next (desk_view c.args.me.now.desk) (desk_view c.loop-input.me.desk) c.loop-input.yielded c.next.new.self.rest.items c.place-place.result c.in-Some.input up c.place-place.ensures i.desk in
     search (rules, free)
 
+pub push-requires : goal.push-requires
+push-requires g c =
+    let i = c.loop-input.invariant in
+    let all : c.args.ins.items ≡ c.loop-input.yielded ++ c.in-Some.input ∷ c.next.new.self.rest.items = grind (arith, common_steps, c.in-Some.ensures.steps, i.all, c.into_iter-input-iterator.ensures.into_iter_gives) in
+    let whole = ap length all in
+    let parts = length-append c.loop-input.yielded (c.in-Some.input ∷ c.next.new.self.rest.items) in
+    let places = ap length i.places ∙ length-map c.loop-input.yielded place_of in
+    omega (arith, c.requires.few, whole, parts, places)
+
 pub loop-input-preserved : goal.loop-input-preserved
 loop-input-preserved g c =
     let i = c.loop-input.invariant in record {
@@ -33,7 +42,7 @@ loop-input-preserved g c =
       core = search rules;
       pass = i.pass;
       all = grind (arith, common_steps, c.in-Some.ensures.steps, i.all);
-      places = c.in_ok-push.ensures.items ∙ ap (λ l. l ++ c.place-place.result ∷ []) i.places ∙ ap (λ (n : ℕ). map place_of c.loop-input.yielded ++ n ∷ []) c.place-place.ensures ∙ sym (map-append place_of c.loop-input.yielded (c.in-Some.input ∷ []));
+      places = c.push.ensures.items ∙ ap (λ l. l ++ c.place-place.result ∷ []) i.places ∙ ap (λ (n : ℕ). map place_of c.loop-input.yielded ++ n ∷ []) c.place-place.ensures ∙ sym (map-append place_of c.loop-input.yielded (c.in-Some.input ∷ []));
       desk = posted_more (desk_view c.args.me.now.desk) (desk_view c.loop-input.me.desk) (desk_view c.post.new.desk) c.loop-input.yielded _ c.in-Some.input c.place-place.ensures i.desk c.post.ensures.posted;
       row = i.row;
     }

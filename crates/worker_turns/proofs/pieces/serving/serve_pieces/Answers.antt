@@ -5,4 +5,4 @@ use Rattle.worker_turns.proofs.pieces.serving.serve_pieces.Goals as goal
 pub returns-clause-desk : goal.returns-clause-desk
 returns-clause-desk g c =
     if_serves c.collect_all.result _ _ _ _ c.args.ins.items _ c.in_ok-places.ensures.desk c.in_ok-run_own.ensures.desk c.collect_all.ensures.desk
-    (c.deref.ensures.value ∙ c.in_ok-places.ensures.places)
+    (c.as_slice.ensures.value ∙ c.in_ok-places.ensures.places)

@@ -28,6 +28,7 @@ fn task_after(node: u32) -> Task
 impl State {
     /// `Claim`: the worker takes a ready node from an end of some list.
     #[tactic(auto, using(ready_lists::proofs::PlaceLemmas::Written::at_written), unfolding(crate::specs::Abstraction::state_of, crate::specs::Abstraction::ready_of))]
+    #[inline(always)]
     pub(crate) fn claim(&mut self, worker: u32, node: u32)
         requires worker_in { worker < length self.old.tasks.items }
         requires node_in { node < length self.old.nodes.items }

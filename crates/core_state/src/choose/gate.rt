@@ -52,6 +52,7 @@ impl State {
     /// The event of the flag's owner. It looks at each worker in turn, publishes unless it took no call, answers the
     /// workers it took calls from, and then releases the flag.
     #[tactic(auto, unfolding(crate::specs::Abstraction::state_of))]
+    #[inline(always)]
     pub(crate) fn choose_holding(&self, setting: &Setting, hold: &Hold) -> Option<Event>
         requires looks { CanChoose setting.now self.now }
         requires held { self.now.hold ≡ Some hold.now }

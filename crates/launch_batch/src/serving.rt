@@ -1,7 +1,8 @@
 //! Serves a whole batch on one thread.
-ghost use Rattle.std.specs.Prelude.{◌≡◌, [], ◌∷◌, ◌++◌, List, IfOk};
+ghost use Rattle.std.specs.Prelude.{◌≡◌, [], ◌∷◌, ◌++◌, List, IfOk, OnOk};
+ghost use Rattle.seq_objects.specs.Batches.{AreInBatchOrder};
 ghost use Rattle.batch_history.specs.declared.batch.Entry.{Entry as EntryOf};
-ghost use Rattle.launch_batch.specs.Calls.{MayServe, IsServiceOf};
+ghost use Rattle.launch_batch.specs.Calls.{MayServe, ArePermutations, IsServiceOf};
 
 use crate::commit::commit;
 use crate::merge::ReplyCursors;
@@ -16,11 +17,13 @@ use seq_objects::Call;
 use std::alloc::{AllocError, Global};
 
 /// Serves the calls as one batch, kind by kind, running the pieces of each one after another. The batch becomes the
-/// last of the shop's history, and the calls are put in batch order. The shop is lost if memory runs out.
+/// last of the shop's history, and the calls are put in its order. The shop is lost if memory runs out.
 pub fn serve(alloc: Global, shop: Shop, calls: &mut Vec<Call>) -> Result<Shop, AllocError>
     requires { MayServe shop calls.old.items }
-    ensures { IfOk result (λ s. (batch : List EntryOf)
+    ensures history { IfOk result (λ s. (batch : List EntryOf)
         × IsServiceOf shop calls.old.items batch × (s ≡ shop ++ batch ∷ [])) }
+    ensures same { OnOk result (ArePermutations calls.old.items calls.new.items) }
+    ensures order { OnOk result (AreInBatchOrder calls.new.items) }
 {
     let Shop {
         mut structures,

@@ -9,6 +9,6 @@ serve-requires c = may_serve c.args.first _ c.args.shop c.in_ok-calls.calls.item
 
 pub returns : goal.returns
 returns c =
-    let made = c.in_ok-next.ensures in
+    let made = c.in_ok-next.ensures.history in
     subst (IsBelow (c.args.first + 32)) (sym made.2)
     (below_after c.args.first _ c.args.shop c.in_ok-calls.calls.items c.in_ok-calls.ensures c.requires.below c.requires.low c.requires.few made.0 made.1)

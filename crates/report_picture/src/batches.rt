@@ -33,8 +33,7 @@ fn push_call_front(
     requires some { 1 ≤ strip.scale }
     requires scale { strip.scale ≤ 2000 }
     requires foot { strip.foot ≤ 2000 }
-    ensures { OnOk result (text.new.items ≡ text.old.items
-        ++ call_front strip.scale strip.foot batch serial) }
+    ensures { OnOk result (text.new.items ≡ text.old.items ++ call_front strip.scale strip.foot batch serial) }
 {
     let left = across(2 * strip.scale, serial);
     let top = (strip.foot + 44) as u64;

@@ -35,8 +35,7 @@ fn push_plain(
     height: u64,
     colour: &[u8],
 ) -> Result<(), AllocError>
-    ensures { OnOk result (text.new.items
-        ≡ text.old.items ++ plain_text left top width height colour.now) }
+    ensures { OnOk result (text.new.items ≡ text.old.items ++ plain_text left top width height colour.now) }
 {
     push_rect(text, left, top, width, height, colour)?;
     push_text(text, b"</rect>\n")
@@ -76,8 +75,7 @@ fn push_parts(
 ) -> Result<(), AllocError>
     requires all { all ≤ foot }
     requires parts { work + calls ≤ foot }
-    ensures { OnOk result (text.new.items
-        ≡ text.old.items ++ parts_text left foot all work calls) }
+    ensures { OnOk result (text.new.items ≡ text.old.items ++ parts_text left foot all work calls) }
 {
     push_plain(text, left, foot - all, 8, all, b"#eaeef2")?;
     push_plain(text, left, foot - work, 8, work, b"#6e7781")?;

@@ -55,8 +55,7 @@ pub(crate) fn push_caption(
     calls: usize,
     batches: usize,
 ) -> Result<(), AllocError>
-    ensures { OnOk result (text.new.items
-        ≡ text.old.items ++ caption_text workers leaves calls batches) }
+    ensures { OnOk result (text.new.items ≡ text.old.items ++ caption_text workers leaves calls batches) }
 {
     push_words(text, 16, 28)?;
     push_number(text, b"workers ", workers)?;

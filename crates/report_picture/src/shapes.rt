@@ -43,8 +43,7 @@ pub(crate) fn push_rect(
     height: u64,
     colour: &[u8],
 ) -> Result<(), AllocError>
-    ensures { OnOk result (text.new.items
-        ≡ text.old.items ++ rect_front left top width height colour.now) }
+    ensures { OnOk result (text.new.items ≡ text.old.items ++ rect_front left top width height colour.now) }
 {
     push_number(text, b"<rect x=\"", left)?;
     push_number(text, b"\" y=\"", top)?;

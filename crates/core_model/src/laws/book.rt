@@ -37,17 +37,13 @@ use sp_order::laws::{
 /// the book.
 pub fn entries_are_found_at_their_places()
     ensures leaf { (book : List (List Entry)) (leaf : ℕ) (place : Place)
-        → place_of book leaf ≡ Some place
-        → place.entry.leaf ≡ leaf }
+        → place_of book leaf ≡ Some place → place.entry.leaf ≡ leaf }
     ensures stands { (book : List (List Entry)) (leaf : ℕ) (place : Place)
-        → place_of book leaf ≡ Some place
-        → StandsAt book place.batch place.place place.entry }
+        → place_of book leaf ≡ Some place → StandsAt book place.batch place.place place.entry }
     ensures longer { (book : List (List Entry)) (batch : List Entry) (leaf : ℕ)
-        → place_of (book ++ batch ∷ []) leaf
-        ≡ or_else (place_of book leaf) (place_in (length book) 0 batch leaf) }
+        → place_of (book ++ batch ∷ []) leaf ≡ or_else (place_of book leaf) (place_in (length book) 0 batch leaf) }
     ensures each { (book : List (List Entry)) (entry : Entry)
-        → AreDistinct (map (λ e. e.leaf) (flat book))
-        → Contains (flat book) entry
+        → AreDistinct (map (λ e. e.leaf) (flat book)) → Contains (flat book) entry
         → (place : Place) × (place_of book entry.leaf ≡ Some place) × (place.entry ≡ entry) }
 {}
 
@@ -55,18 +51,15 @@ pub fn entries_are_found_at_their_places()
 /// batch, where the worker's leaf had no entry before. Workers whose call is not taken gain no entry.
 pub fn publish_adds_the_taken_call()
     ensures other { (job : CoreJob) (old new : State) (worker : ℕ) (event : Event)
-        → Happens job old worker event new
-        → event ≢ Publish
+        → Happens job old worker event new → event ≢ Publish
         → new.book ≡ old.book }
     ensures untaken { (job : CoreJob) (old new : State) (worker : ℕ) → IsPlan job.plan
-        → Parts job old
-        → Happens job old worker Publish new
+        → Parts job old → Happens job old worker Publish new
         → (w : ℕ) → is_taken_by old.hold w ≡ false
         → (entries_of w (flat new.book) ≡ entries_of w (flat old.book))
         × (task_place job new.book (old.task w) ≡ task_place job old.book (old.task w)) }
     ensures taken { (job : CoreJob) (old new : State) (worker : ℕ) → IsPlan job.plan
-        → Parts job old
-        → Happens job old worker Publish new
+        → Parts job old → Happens job old worker Publish new
         → (w : ℕ) → is_taken_by old.hold w ≡ true
         → (task_place job old.book (old.task w) ≡ None)
         × (place : Place) × (task_place job new.book (old.task w) ≡ Some place)
@@ -92,14 +85,11 @@ pub fn receipt_is_of_the_own_entry()
 /// entry of its source, if it has one.
 pub fn operations_stay()
     ensures longer { (job : CoreJob) (book : List (List Entry)) (batch : List Entry) (leaf : ℕ) (op : Op)
-        → op_of job book leaf ≡ Some op
-        → op_of job (book ++ batch ∷ []) leaf ≡ Some op }
+        → op_of job book leaf ≡ Some op → op_of job (book ++ batch ∷ []) leaf ≡ Some op }
     ensures calls { (job : CoreJob) (book : List (List Entry)) (leaf : ℕ) (op : Op)
-        → op_of job book leaf ≡ Some op
-        → IsCall job leaf }
+        → op_of job book leaf ≡ Some op → IsCall job leaf }
     ensures source { (job : CoreJob) (book : List (List Entry)) (leaf source : ℕ) (op : Op)
-        → op_of job book leaf ≡ Some op
-        → job.source leaf ≡ Some source
+        → op_of job book leaf ≡ Some op → job.source leaf ≡ Some source
         → (place : Place) × (place_of book source ≡ Some place) }
 {}
 
@@ -108,8 +98,7 @@ pub fn operations_stay()
 pub fn started_leaf_has_its_source()
     ensures { (job : CoreJob) (state : State) (worker node leaf source : ℕ) → HasSources job
         → Parts job state
-        → HasStarted job state worker node leaf
-        → job.source leaf ≡ Some source
+        → HasStarted job state worker node leaf → job.source leaf ≡ Some source
         → HasReplied job state source }
 {}
 
@@ -117,8 +106,7 @@ pub fn started_leaf_has_its_source()
 /// its act, with the low 32 bits of the value of the source's reply as its argument.
 pub fn sources_come_first()
     ensures { (job : CoreJob) (state : State) (leaf source : ℕ) (later : Place)
-        → Parts job state
-        → job.source leaf ≡ Some source
+        → Parts job state → job.source leaf ≡ Some source
         → place_of state.book leaf ≡ Some later
         → (earlier : Place) × (place_of state.book source ≡ Some earlier)
         × (earlier.batch < later.batch)
@@ -144,14 +132,12 @@ pub fn calls_have_room()
     ensures plan { (job : CoreJob) (state : State) (workers : List ℕ) → IsPlan job.plan
         → ((leaf : ℕ) → IsCall job leaf → (n : ℕ) × (job.plan.kind n ≡ Some (LeafNode leaf)))
         → Parts job state
-        → AreDistinct workers
-        → AllByRecursion (IsUnserved state) workers
+        → AreDistinct workers → AllByRecursion (IsUnserved state) workers
         → length (flat state.book) + length workers ≤ call_count job }
     ensures tree { (job : JobValue) (count : ℕ) (state : State) (workers : List ℕ)
         → length job.acts ≡ leaves (job_tree job)
         → Parts (core_job job count) state
-        → AreDistinct workers
-        → AllByRecursion (IsUnserved state) workers
+        → AreDistinct workers → AllByRecursion (IsUnserved state) workers
         → (length (flat state.book) + length workers ≤ call_count (core_job job count))
         × (length (flat state.book) + length workers ≤ leaves (job_tree job)) }
 {

@@ -30,14 +30,10 @@ pub fn opening_has_parts()
 /// Each event preserves the `Parts`, whichever worker makes it. This needs no assumption on the order of events.
 pub fn event_keeps_parts()
     ensures event { (job : CoreJob) (old new : State) (worker : ℕ) (event : Event) → IsPlan job.plan
-        → Parts job old
-        → Happens job old worker event new
-        → Parts job new }
+        → Parts job old → Happens job old worker event new → Parts job new }
     ensures kind { (job : CoreJob) (old new : State) (worker : ℕ) (kind : EventKind)
         → IsPlan job.plan
-        → Parts job old
-        → IsEvent job old worker kind new
-        → Parts job new }
+        → Parts job old → IsEvent job old worker kind new → Parts job new }
 {}
 
 /// The opening state with its lists has the invariant.
@@ -49,9 +45,7 @@ pub fn opening_has_invariant()
 /// Each event preserves the invariant.
 pub fn event_keeps_invariant()
     ensures { (job : CoreJob) (old new : CoreState) (worker : ℕ) (event : Event) → IsPlan job.plan
-        → Invariant job old
-        → IsStep job old worker event new
-        → Invariant job new }
+        → Invariant job old → IsStep job old worker event new → Invariant job new }
 {}
 
 /// Each state that events reach from the opening state has the invariant.

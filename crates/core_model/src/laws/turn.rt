@@ -40,8 +40,7 @@ pub fn next_is_event()
 /// The event that a turn chooses has its needs met.
 pub fn choice_has_its_needs()
     ensures { (job : CoreJob) (state : CoreState) (worker : ℕ) (event : Event) → IsPlan job.plan
-        → worker < job.workers
-        → Invariant job state
+        → worker < job.workers → Invariant job state
         → choice job state worker ≡ Some event
         → Needs job state.state worker event }
 {}
@@ -49,8 +48,7 @@ pub fn choice_has_its_needs()
 /// If a worker's turn chooses no event, no event of this worker has its needs met.
 pub fn no_choice_has_no_event()
     ensures { (job : CoreJob) (state : CoreState) (worker : ℕ) → IsPlan job.plan
-        → worker < job.workers
-        → Invariant job state
+        → worker < job.workers → Invariant job state
         → choice job state worker ≡ None
         → (event : Event) → Needs job state.state worker event → ⊥ }
 {}
@@ -67,8 +65,7 @@ pub fn events_are_in_range()
 /// claim removes just that end.
 pub fn claimed_node_leaves_an_end()
     ensures { (job : CoreJob) (state : CoreState) (worker node : ℕ) → IsPlan job.plan
-        → worker < job.workers
-        → Invariant job state
+        → worker < job.workers → Invariant job state
         → choice job state worker ≡ Some (Claim node)
         → LeavesAnEnd state.ready worker node }
 {}
@@ -76,8 +73,7 @@ pub fn claimed_node_leaves_an_end()
 /// At the opening, worker 0's turn chooses to claim the root. With two workers, worker 1's turn chooses to steal it.
 pub fn opening_choices()
     ensures own { (job : CoreJob) → choice job opening_core 0 ≡ Some (Claim 0) }
-    ensures stolen { (job : CoreJob)
-        → job.workers ≡ 2 → choice job opening_core 1 ≡ Some (Claim 0) }
+    ensures stolen { (job : CoreJob) → job.workers ≡ 2 → choice job opening_core 1 ≡ Some (Claim 0) }
 {}
 
 /// An event whose needs are met happens: some state results from it.
@@ -92,9 +88,7 @@ pub fn event_with_its_needs_happens()
 /// An event has at most one result in a given state.
 pub fn event_makes_one_state()
     ensures { (job : CoreJob) (state a b : State) (worker : ℕ) (event : Event)
-        → Does job state worker event a
-        → Does job state worker event b
-        → a ≡ b }
+        → Does job state worker event a → Does job state worker event b → a ≡ b }
 {}
 
 /// Progress: while the root is not done, the turn of some worker chooses an event, and some state results from it.
@@ -131,8 +125,7 @@ pub fn some_live_turn_makes_an_event()
 pub fn turns_lower_measure()
     ensures { (job : CoreJob) (state : CoreState) (worker : ℕ) (event : Event) (new : State)
         → IsPlan job.plan
-        → worker < job.workers
-        → Invariant job state
+        → worker < job.workers → Invariant job state
         → choice job state worker ≡ Some event
         → Does job state.state worker event new
         → measure job new < measure job state.state }

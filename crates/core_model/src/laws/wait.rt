@@ -37,8 +37,7 @@ pub fn trapped_waits_since_then()
         → Parts job first
         → StaysTrapped job worker first last
         → WaitsSince job last worker (length first.book) }
-    ensures reached { (job : JobValue) (workers worker : ℕ)
-        (first : CoreState) (last : State)
+    ensures reached { (job : JobValue) (workers worker : ℕ) (first : CoreState) (last : State)
         → 0 < workers
         → IsReached (core_job job workers) first
         → StaysTrapped (core_job job workers) worker first.state last
@@ -51,8 +50,7 @@ pub fn trapped_waits_since_then()
 /// If a worker stays trapped until its call is served, the receipt's batch was there at the beginning or is one of the
 /// next two.
 pub fn two_batches_at_most()
-    ensures { (job : JobValue) (workers worker : ℕ)
-        (first : CoreState) (last : State) (receipt : Receipt)
+    ensures { (job : JobValue) (workers worker : ℕ) (first : CoreState) (last : State) (receipt : Receipt)
         → 0 < workers
         → IsReached (core_job job workers) first
         → StaysTrapped (core_job job workers) worker first.state last
@@ -65,8 +63,7 @@ pub fn two_batches_at_most()
 
 /// If the call is pending at the beginning, it is served in one of the next two batches.
 pub fn pending_call_is_in_next_two()
-    ensures { (job : JobValue) (workers worker : ℕ)
-        (first : CoreState) (last : State) (receipt : Receipt)
+    ensures { (job : JobValue) (workers worker : ℕ) (first : CoreState) (last : State) (receipt : Receipt)
         → 0 < workers
         → IsReached (core_job job workers) first
         → first.state.status worker ≡ Pending

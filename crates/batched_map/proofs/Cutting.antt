@@ -150,10 +150,6 @@ left_count all left count tree is =
     let both = length-append left is.last in
     omega (arith, both, is.count_is, ap length is.all_are)
 
--- the last tree alone
-pub one_joined : (all : List (List Entry)) (tree : List Entry) (left : List (List Entry)) → all ≡ left ++ tree ∷ [] → IsJoined all left 1 tree
-one_joined all tree left are = record { last = tree ∷ []; all_are = are; count_is = refl; tree_is = sym (append-nil tree) }
-
 -- all trees
 pub all_joined : (all left : List (List Entry)) (tree : List Entry) → IsJoined all left (length all) tree → tree ≡ side_by_side all
 all_joined all left tree is = step left is.all_are (left_count all left (length all) tree is) where

@@ -1,19 +1,9 @@
 -- The last members taken out of rows.
-use Rattle.std.proofs.Common.{ℕ, zero, suc, ◌≡◌, ◌<◌, ◌≤◌, ◌+◌, ◌-◌, Option, Some, None, option_to_list, List, [], ◌∷◌, ◌++◌, length, take, drop, get_or, slice_set, map, refl, ap, sym, ◌∙◌, arith, append-nil, append_assoc}
+use Rattle.std.proofs.Common.{ℕ, zero, suc, ◌≡◌, ◌<◌, ◌≤◌, ◌+◌, Option, option_to_list, List, [], ◌∷◌, ◌++◌, length, take, drop, get_or, slice_set, map, refl, ap, sym, ◌∙◌, arith, append_assoc}
 use Rattle.object_rows.specs.declared.members.Members.{Members}
 use Rattle.object_rows.specs.declared.members.Members.TheVariants.{One}
 use Rattle.object_rows.specs.Rows.{list_of, members}
 use Rattle.object_rows.specs.Code.Lasts.{last_of, front_of, lasts, fronts, last_at, without_last}
-use Rattle.object_rows.proofs.ListLemmas.{take_front, drop_front}
-
--- a list that a pop has shortened
-pub popped_last : {X : Type 0} (row now : List X) (last : Option X) → row ≡ now ++ option_to_list last → (last ≡ None → row ≡ []) → option_to_list last ≡ last_of row
-popped_last row now (Some x) is none = rw is (sym (drop_front now x (length (now ++ x ∷ []) - 1) refl))
-popped_last row now None is none = rw (none refl) refl
-
-pub popped_front : {X : Type 0} (row now : List X) (last : Option X) → row ≡ now ++ option_to_list last → (last ≡ None → row ≡ []) → now ≡ front_of row
-popped_front row now (Some x) is none = rw is (sym (take_front now x (length (now ++ x ∷ []) - 1) refl))
-popped_front row now None is none = let same : now ≡ row = sym (append-nil now) ∙ sym is in same ∙ (rw (none refl) refl)
 
 module _ {X : Type 0} (last : Option X) (row now : Members X) (taken : option_to_list last ≡ last_of (list_of row)) (left : list_of now ≡ front_of (list_of row)) where
   pub taken_there : (rows : List (Members X)) (place : ℕ) → place < length rows → row ≡ get_or rows place row → option_to_list last ≡ last_at place (members rows)

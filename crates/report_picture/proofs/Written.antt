@@ -10,7 +10,7 @@ use Rattle.batch_history.specs.declared.batch.Entry.{Entry}
 use Rattle.batch_history.specs.declared.place.Place.{Place}
 use Rattle.batch_history.specs.declared.row.Row.{Row}
 use Rattle.batch_history.specs.declared.report.Report.{Report}
-use Rattle.report_picture.specs.Markup.{Part, Say, Number, Tag, Attribute, Markup, Nothing, Words, Element, escaped, key_name, tag_name, parts_onto, attributes_onto, markup_onto, text_of, each}
+use Rattle.report_picture.specs.Markup.{Part, Say, Number, Attribute, Markup, Nothing, Words, Element, escaped, key_name, tag_name, parts_onto, attributes_onto, markup_onto, text_of, each}
 use Rattle.report_picture.specs.Boxes.{lane_top, across, batch_colour, box_for, box_of, Bracket, brackets_of}
 use Rattle.report_picture.specs.Drawing.{draw_box, draw_line, draw_words, draw_lane, draw_tick, draw_ticks, draw_rect, call_title, draw_calls, draw_number, draw_bracket, draw_legend}
 use Rattle.report_picture.specs.Code.Texts.{rect_front, ticks_text, work_text, called_text, box_text, words_front, light_end, lane_text, tick_text, call_front, served_text, call_text, calls_text, number_text, line_text, under_text, bracket_line, bracket_text, legend_text, lanes_text, marks_text, boxes_text, group_text, strip_name, brackets_text, sheet_start, sheet_style, sheet_top, sheet_front, caption_text, drawing_text}
@@ -56,11 +56,6 @@ markup_behind (Element tag attributes inside behind) front rest =
     ∙ (ap (λ t. codes "<" ++ (tag_name tag ++ attributes_onto attributes t)) inner
     ∙ (ap (λ t. codes "<" ++ (tag_name tag ++ t)) (attributes_behind attributes filled rest)
     ∙ ap (λ t. codes "<" ++ t) (sym (append_assoc (tag_name tag) (attributes_onto attributes filled) rest))))
-
--- the text of an element with text behind it
-pub element_drawn : (tag : Tag) (attributes : List Attribute) (inside behind : Markup) (rest : List ℕ)
-    → markup_onto (Element tag attributes inside behind) rest ≡ markup_onto (Element tag attributes inside Nothing) [] ++ markup_onto behind rest
-element_drawn tag attributes inside behind rest = markup_behind (Element tag attributes inside Nothing) [] (markup_onto behind rest)
 
 -- a rectangle with this text behind its front
 abbrev rect_text : ℕ → ℕ → ℕ → ℕ → List ℕ → List ℕ → List ℕ

@@ -1,5 +1,5 @@
 -- Consequences for a run of a generated job.
-use Rattle.std.proofs.Common.{◌≡◌, ℕ, ◌≤◌, List, length, Option, Some, None, Result, Ok, Err, IfOk, inl, inr, refl, ap, subst, arith}
+use Rattle.std.proofs.Common.{◌≡◌, ℕ, ◌≤◌, List, length, Option, Some, None, Result, IfOk, inl, inr, refl, ap, subst, arith}
 use Rattle.std.specs.Io.KnownBytes.{Appends}
 use Rattle.sp_order.specs.Jobs.{JobValue}
 use Rattle.batch_history.specs.Lawful.{Lawful}
@@ -13,11 +13,6 @@ use Rattle.batchrun.specs.Code.Writing.{WritesReport}
 use Rattle.batchrun.proofs.OutcomeLemmas.Headlines.{prints_with}
 use Rattle.batchrun.specs.declared.status.Status.{Status}
 use Rattle.batchrun.specs.declared.status.Status.TheVariants.{Done, Made, Usage, ReadFault, Refused, WriteFault, Memory}
-
--- what follows for each report with a property follows for the report of a run
-pub if_run : {E : Type 0} (Told Owed : Report → Type 0) (run : Result Report E) → ((report : Report) → Told report → Owed report) → IfOk run Told → IfOk run Owed
-if_run Told Owed (Ok report) owed told = owed report told
-if_run Told Owed (Err e) owed told = tt
 
 -- an outcome prints the summary of its lawful report
 pub prints_made : {E : Type 0} (size seed workers : ℕ) (job : JobValue) (run : Result Report E) → job ≡ generated seed size → IfOk run (λ report. Lawful job workers report)

@@ -31,15 +31,6 @@ use Rattle.sp_order.specs.Precedence.{Tree}
 pub added_count : (c : ℕ) (a : Items) (old new : Leaves) → Adds c a old new → length new.acts.items ≡ length old.acts.items + count a
 added_count c a old new h = ap length h.acts ∙ length-append old.acts.items (acts_in c a) ∙ ap (λ n. length old.acts.items + n) (acts_count a c)
 
-pub adds_nothing : (c : ℕ) (leaves : Leaves) → AreKept leaves → Adds c nothing leaves leaves
-adds_nothing c leaves kept = record {
-  acts = sym (append-nil leaves.acts.items);
-  sources = sym (append-nil leaves.sources.items);
-  objects = behind_nothing (length leaves.acts.items) leaves.objects;
-  scope = sym (with_nothing (names.view leaves.scopes));
-  kept = kept;
-}
-
 pub adds_then : (c : ℕ) (a b : Items) (old now new : Leaves) → Adds c a old now → Adds c b now new → Adds c (a then b) old new
 adds_then c a b old now new f g =
     let first = length old.acts.items in
@@ -111,26 +102,6 @@ module _ (block : BlockKind) (c : ℕ) (body : Items) (old opened filled new : L
       h.new_scope ∙ ap closed (h.fills.scope ∙ ap (λ s. with_lets s (lets_behind (length opened.acts.items) body)) h.opened_scope
       ∙ ap (λ n. inside (names.view old.scopes) (name_kind block) (lets_behind n body)) first_is)
 
-pub adds_series : (c : ℕ) (body : Items) (old opened filled new : Leaves) → InBlock seq_block c body old opened filled new → Adds c (block_then seq_block body nothing) old new
-adds_series c body old opened filled new h = record {
-  acts = acts_are seq_block c body old opened filled new h ∙ ap (λ acts. old.acts.items ++ acts) (sym (append-nil (acts_in c body)));
-  sources = sources_are seq_block c body old opened filled new h
-      ∙ ap (λ all. old.sources.items ++ all) (sym (append-nil (scoped_sources (inside (names.view old.scopes) kind.Series []) (length old.acts.items) body)));
-  objects = subst (NamesBehind (length old.acts.items) old.objects new.objects) (sym (append-nil (objects_in body))) (objects_are seq_block c body old opened filled new h);
-  scope = scope_is seq_block c body old opened filled new h ∙ ap (with_lets (names.view old.scopes)) (sym (append-nil (lets_behind (length old.acts.items) body)));
-  kept = h.kept;
-}
-
-pub adds_parallel : (c : ℕ) (body : Items) (old opened filled new : Leaves) → InBlock par_block c body old opened filled new → Adds c (block_then par_block body nothing) old new
-adds_parallel c body old opened filled new h = record {
-  acts = acts_are par_block c body old opened filled new h ∙ ap (λ acts. old.acts.items ++ acts) (sym (append-nil (acts_in c body)));
-  sources = sources_are par_block c body old opened filled new h
-      ∙ ap (λ all. old.sources.items ++ all) (sym (append-nil (scoped_sources (inside (names.view old.scopes) kind.Par []) (length old.acts.items) body)));
-  objects = subst (NamesBehind (length old.acts.items) old.objects new.objects) (sym (append-nil (objects_in body))) (objects_are par_block c body old opened filled new h);
-  scope = scope_is par_block c body old opened filled new h ∙ ap (with_lets (names.view old.scopes)) (sym (append-nil (lets_behind (length old.acts.items) body)));
-  kept = h.kept;
-}
-
 pub adds_for : (c : ℕ) (n : BlockKind) (copies : ℕ) (body : Items) (old new : Leaves) → AddsCopies copies body old new
     → (acts_in c (block_then n body nothing) ≡ each_copy copies (λ k. acts_in k body) ++ [])
     → ((scope : Scope) (first : ℕ) → scoped_sources scope first (block_then n body nothing) ≡ each_copy copies (λ k. scoped_sources (inside scope kind.Loop []) (first + k * count body) body) ++ [])
@@ -153,10 +124,6 @@ adds_for_loop c n body old new h = adds_for c (for_loop (Number (Some n))) n bod
 
 pub adds_pfor_loop : (c n : ℕ) (body : Items) (old new : Leaves) → AddsCopies n body old new → Adds c (block_then (pfor_loop (Number (Some n))) body nothing) old new
 adds_pfor_loop c n body old new h = adds_for c (pfor_loop (Number (Some n))) n body old new h refl (λ scope first. refl) refl (λ first. refl)
-
--- copies
-pub no_copies : (body : Items) (leaves : Leaves) → AreKept leaves → AddsCopies 0 body leaves leaves
-no_copies body leaves kept = record { acts = sym (append-nil leaves.acts.items); sources = sym (append-nil leaves.sources.items); objects = behind_nothing (length leaves.acts.items) leaves.objects; scope = refl; kept = kept }
 
 each_count : (n : ℕ) (body : Items) → length (each_copy n (λ k. acts_in k body)) ≡ n * count body
 each_count zero body = omega arith

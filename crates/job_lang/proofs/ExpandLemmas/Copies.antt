@@ -54,25 +54,14 @@ fits_item c x xs i h k e = subst (λ x. Fits c (item_of x)) (sym e) (fits_at c x
 shapes_more : (c : ℕ) (xs : List Item) (i : ℕ) (x : Item) → i < length xs → x ≡ get_or xs i x → shapes_in c (items_of (take (i + 1) xs)) ≡ shapes_in c (items_of (take i xs)) ++ shapes_in c (item_of x)
 shapes_more c xs i x h e = ap (shapes_in c) (items_of_more xs i x h e) ∙ shapes_then c (items_of (take i xs)) (item_of x)
 
-acts_more : (c : ℕ) (xs : List Item) (i : ℕ) (x : Item) → i < length xs → x ≡ get_or xs i x → acts_in c (items_of (take (i + 1) xs)) ≡ acts_in c (items_of (take i xs)) ++ acts_in c (item_of x)
-acts_more c xs i x h e = ap (acts_in c) (items_of_more xs i x h e) ∙ acts_then c (items_of (take i xs)) (item_of x)
-
 pub shapes_step : (c : ℕ) (xs : List Item) (i : ℕ) (x : Item) (old now new : List Tree) → now ≡ old ++ shapes_in c (items_of (take i xs)) → x ≡ get_or xs i x → i < length xs → new ≡ now ++ shapes_in c (item_of x) → new ≡ old ++ shapes_in c (items_of (take (i + 1) xs))
 shapes_step c xs i x old now new e f h n =
     n ∙ ap (λ y. y ++ shapes_in c (item_of x)) e ∙ append_assoc old (shapes_in c (items_of (take i xs))) (shapes_in c (item_of x))
     ∙ ap (λ y. old ++ y) (sym (shapes_more c xs i x h f))
 
-pub acts_step : (c : ℕ) (xs : List Item) (i : ℕ) (x : Item) (old now new : List Act) → now ≡ old ++ acts_in c (items_of (take i xs)) → x ≡ get_or xs i x → i < length xs → new ≡ now ++ acts_in c (item_of x) → new ≡ old ++ acts_in c (items_of (take (i + 1) xs))
-acts_step c xs i x old now new e f h n =
-    n ∙ ap (λ y. y ++ acts_in c (item_of x)) e ∙ append_assoc old (acts_in c (items_of (take i xs))) (acts_in c (item_of x))
-    ∙ ap (λ y. old ++ y) (sym (acts_more c xs i x h f))
-
 -- the meaning of an item, by its inner items
 pub block_shapes : (c : ℕ) (kind : CodeBlockKind) (inside : Vec Item Global) → shapes_in c (item_of (Block kind inside)) ≡ shapes_in c (block_then (block_kind_of kind) (items_of inside.items) nothing)
 block_shapes c kind inside = ap (shapes_in c) (item_of_block kind inside)
-
-pub block_acts : (c : ℕ) (kind : CodeBlockKind) (inside : Vec Item Global) → acts_in c (item_of (Block kind inside)) ≡ acts_in c (block_then (block_kind_of kind) (items_of inside.items) nothing)
-block_acts c kind inside = ap (acts_in c) (item_of_block kind inside)
 
 pub block_fits : (c : ℕ) (kind : CodeBlockKind) (inside : Vec Item Global) → Fits c (item_of (Block kind inside)) → Fits c (block_then (block_kind_of kind) (items_of inside.items) nothing)
 block_fits c kind inside h = subst (Fits c) (item_of_block kind inside) h

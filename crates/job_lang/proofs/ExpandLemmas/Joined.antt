@@ -12,11 +12,6 @@ pub total_append : (xs ys : List Tree) → total (xs ++ ys) ≡ total xs + total
 total_append [] ys = omega arith
 total_append (x ∷ xs) ys = omega (arith, total_append xs ys)
 
--- as the repository says it (job_lang/proofs/ExpandLemmas/Leaves)
-pub total_is_sum : (xs : List Tree) → total xs ≡ sum_by leaves xs
-total_is_sum [] = refl
-total_is_sum (x ∷ xs) = ap (λ n. leaves x + n) (total_is_sum xs) ∙ sym (sum_by-cons leaves x xs)
-
 -- u stands in the first m leaves, and v in the k leaves behind them
 abbrev pub Cross : Bool → ℕ → ℕ → ℕ → ℕ → ℕ → Type 0
 Cross series first m k u v = (series ≡ true) × (((first ≤ u) × (u < first + m)) × ((first + m ≤ v) × (v < first + m + k)))

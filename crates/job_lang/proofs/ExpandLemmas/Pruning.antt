@@ -46,9 +46,6 @@ only_full_then (block_then kind body a) b =
 abbrev pub is_full : Item → Bool
 is_full x = not (is_nothing (only_full (item_of x)))
 
-pub full_leaf : (leaf : CodeLeaf) → is_full (ItemLeaf leaf) ≡ true
-full_leaf leaf = ap (λ items. not (is_nothing (only_full items))) (item_of_leaf leaf)
-
 block_is_full : (empty : Bool) (kind : BlockKind) (body : Items) → not (is_nothing (if empty then nothing else block_then kind body nothing)) ≡ not empty
 block_is_full true kind body = refl
 block_is_full false kind body = refl

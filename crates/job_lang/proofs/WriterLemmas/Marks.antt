@@ -38,18 +38,6 @@ all_taken [] (suc n) e = absurd (omega (arith, e))
 all_taken (first ∷ xs) zero e = absurd (omega (arith, e))
 all_taken (first ∷ xs) (suc n) e = ap (λ l. first ∷ l) (all_taken xs n (omega (arith, e)))
 
-same_by : (b : Bool) (i leaf : ℕ) → (i == leaf) ≡ b → (suc i == suc leaf) ≡ b
-same_by true i leaf e = eq-eqb (suc i) (suc leaf) (ap suc (eqb-true i leaf e))
-same_by false i leaf e = let ne = eqb-false i leaf e in ne_eqb (suc i) (suc leaf) (λ same. ne (omega (arith, same)))
-
--- one more mark
-pub set_each : (xs : List Bool) (i leaf : ℕ) (was : Bool) → i < length xs → slice_get xs leaf ≡ Some was → slice_get (set xs i true) leaf ≡ Some (was || (i == leaf))
-set_each [] i leaf was h e = cc
-set_each (x ∷ xs) zero zero was h e = ap (λ b. Some b) (sym (or_true was))
-set_each (x ∷ xs) zero (suc leaf) was h e = e ∙ ap (λ b. Some b) (sym (or_false was)) ∙ ap (λ b. Some (was || b)) (sym (ne_eqb 0 (suc leaf) (λ same. absurd (omega (arith, same)))))
-set_each (x ∷ xs) (suc i) zero was h e = e ∙ ap (λ b. Some b) (sym (or_false was)) ∙ ap (λ b. Some (was || b)) (sym (ne_eqb (suc i) 0 (λ same. absurd (omega (arith, same)))))
-set_each (x ∷ xs) (suc i) (suc leaf) was h e = set_each xs i leaf was (omega (arith, h)) e ∙ ap (λ b. Some (was || b)) (sym (same_by (i == leaf) i leaf refl))
-
 pub set_length : (xs : List Bool) (i : ℕ) → length (set xs i true) ≡ length xs
 set_length [] i = refl
 set_length (x ∷ xs) zero = refl
@@ -57,11 +45,6 @@ set_length (x ∷ xs) (suc i) = ap suc (set_length xs i)
 
 pub no_mark : (xs : List Bool) (leaf : ℕ) (was : Bool) → slice_get xs leaf ≡ Some was → slice_get xs leaf ≡ Some (was || false)
 no_mark xs leaf was e = e ∙ ap (λ b. Some b) (sym (or_false was))
-
-pub none_marked : (n k : ℕ) → k < n → slice_get (replicate n false) k ≡ Some false
-none_marked zero k h = absurd (omega (arith, h))
-none_marked (suc n) zero h = refl
-none_marked (suc n) (suc k) h = none_marked n k (omega (arith, h))
 
 -- a job's source is one of its leaves
 pub source_below : (shape : Option Tree) (acts : List Act) (sources : List (Option ℕ)) (leaf : ℕ) (r : Option ℕ) → AreSources shape acts sources → slice_get sources leaf ≡ Some r → IfSome r (λ source. source < length acts)

@@ -1,5 +1,5 @@
 -- Ranks and indices on both sides of an entry.
-use Rattle.std.proofs.Common.{◌≡◌, ℕ, zero, suc, ◌+◌, ◌<◌, ◌≤◌, true, false, nat_lt, Bool, cond, List, [], ◌∷◌, ◌++◌, length, take, drop, filter, refl, ap, ◌∙◌, arith, length-append}
+use Rattle.std.proofs.Common.{◌≡◌, ℕ, zero, suc, ◌+◌, ◌<◌, ◌≤◌, true, false, nat_lt, List, [], ◌∷◌, ◌++◌, length, take, drop, filter, refl, ap, ◌∙◌, arith, length-append}
 use Rattle.std.proofs.lemmas.Bool.Decides.{nat_tests}
 use Rattle.std.proofs.lemmas.List.{length-take-le}
 use Rattle.std.proofs.lemmas.List.Elements.{filter-append}
@@ -47,13 +47,6 @@ rank_of_split key whole low high cut =
 
 pub rank_at : (key at : ℕ) (xs : List Entry) → IsSplit key xs (take at xs) (drop at xs) → at ≤ length xs → rank_of key xs ≡ at
 rank_at key at xs cut within = rank_of_split key xs (take at xs) (drop at xs) cut ∙ length-take-le at xs within
-
-pub rank_within : (key : ℕ) (entries : List Entry) → rank_of key entries ≤ length entries
-rank_within key [] = omega arith
-rank_within key (e ∷ entries) = step (nat_lt e.key key) (rank_within key entries) where
-  step : (t : Bool) → rank_of key entries ≤ length entries → length (cond t (e ∷ filter (λ (x : Entry). nat_lt x.key key) entries) (filter (λ (x : Entry). nat_lt x.key key) entries)) ≤ suc (length entries)
-  step true rest = omega arith
-  step false rest = omega arith
 
 -- the key at an index, left and right of an entry
 pub at_left : (i : ℕ) (xs ys : List Entry) → i < length xs → key_at i (xs ++ ys) ≡ key_at i xs

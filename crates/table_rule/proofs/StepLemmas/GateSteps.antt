@@ -136,9 +136,6 @@ told_by job s k since r p st at h = rw (st, at) at h
 vacant_record : (c : OpRecord) (home : SlotHome) → home ≡ some (some (Slots.Record c)) → home ≡ some (some Slots.Vacant) → ⊥
 vacant_record c home e f = let g = sym e ∙ f in cc
 
-gone_vacant : (home : SlotHome) → home ≡ some none → home ≡ some (some Slots.Vacant) → ⊥
-gone_vacant home e f = let g = sym e ∙ f in cc
-
 if_false : (a b : ℕ) (x : Bool) → (if a == b then true else x) ≡ false → (a ≢ b) × (x ≡ false)
 if_false a b x e = ((λ f. grind (arith, nat_tests)), grind (arith, nat_tests))
 

@@ -18,7 +18,7 @@ use Rattle.core_model.specs.Events.{Happens, task_after, value_in}
 use Rattle.core_model.specs.Next.{next_act, act_of_run, act_of_half, act_of_started, act_of_second, act_of_parent, act_of_arrive, act_of_whole, act_of_handed}
 use Rattle.core_model.specs.declared.next.Next.{Next}
 use Rattle.core_model.specs.declared.next.Next.TheVariants as acts
-use Rattle.table_rule.specs.CoreWords.{Task, Idle, Run, Half, Started, Kept, Ended, Whole, Handed, Ready, Done, Free, CallState, NotCalled, Out, Got, Event}
+use Rattle.table_rule.specs.CoreWords.{Task, Idle, Run, Half, Started, Kept, Ended, Whole, Handed, Ready, Free, CallState, NotCalled, Out, Got, Event}
 use Rattle.table_rule.specs.declared.slot.OpRecord.{OpRecord}
 use Rattle.table_rule.specs.declared.view.View.{View}
 use Rattle.table_rule.specs.Laws.{Laws}
@@ -213,14 +213,3 @@ after_here job n below = elim (cases_eq n 0) [
 -- the task after the second arrival
 pub handed_here : (job : CoreJob) (laws : Laws job) (p l r : ℕ) → job.plan.kind p ≡ Some (ParNode l r) → TaskHere job (Handed p)
 handed_here job laws p l r kind = (block_in job.plan p (ParNode l r) laws.plan kind, subst IsPar (sym kind) tt)
-
--- a finish with any task but `Ended` marks its node as done
-pub done_else : (k : ℕ) (task : Task) → ((n s e : ℕ) → task ≡ Ended n s e → ⊥) → progress_after k task ≡ Done
-done_else k Idle other = refl
-done_else k (Run n) other = refl
-done_else k (Half p) other = refl
-done_else k (Started n s) other = refl
-done_else k (Kept n s) other = refl
-done_else k (Ended n s e) other = absurd (other n s e refl)
-done_else k (Whole n) other = refl
-done_else k (Handed p) other = refl

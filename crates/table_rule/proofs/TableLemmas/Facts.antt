@@ -36,9 +36,6 @@ is_executing job s k parts e = (parts.statuses.executing k).1 e
 executing_taken : (job : CoreJob) (s : State) (k : ℕ) → Parts job s → s.status k ≡ Executing → is_taken_by s.hold k ≡ true
 executing_taken job s k parts e = (parts.statuses.executing k).0 e
 
-pub not_executing : (job : CoreJob) (s : State) (k : ℕ) → Parts job s → is_taken_by s.hold k ≡ false → s.status k ≢ Executing
-not_executing job s k parts untaken e = let f = executing_taken job s k parts e in absurd (cc)
-
 -- two workers whose tasks name one node are one
 pub same_worker : (job : CoreJob) (s : State) (v w n : ℕ) → Parts job s → names (s.task v) ≡ Some n → names (s.task w) ≡ Some n → v ≡ w
 same_worker job s v w n parts e f = parts.tasks.apart v w n e f

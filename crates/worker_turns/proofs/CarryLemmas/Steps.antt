@@ -1,5 +1,5 @@
 -- One step after another of a task that is carried on.
-use Rattle.std.proofs.Common.{◌≡◌, ◌<◌, ℕ, ◌+◌, Bool, true, false, Option, List, [], ◌∷◌, ◌++◌, length, sym, refl, ap, ◌∙◌, arith, append_assoc, append-nil, length-append}
+use Rattle.std.proofs.Common.{◌≡◌, ◌<◌, ℕ, ◌+◌, Bool, true, false, Option, List, [], ◌∷◌, ◌++◌, sym, refl, ap, ◌∙◌, arith, append_assoc, append-nil, length-append}
 use Rattle.std.specs.Prelude.{Result, Ok, Err, OnOk, is_err}
 use Rattle.core_model.specs.declared.event.Event.TheVariants.{Post, Leave}
 use Rattle.core_model.specs.declared.task.Task.TheVariants.{Started}
@@ -143,27 +143,3 @@ called receipt old mid new node start task (between, is) last = (
 
 pub carried_none : (old : WorkerView) → RanToIdle old old
 carried_none old = carried_step old old old.pass.task old.pass.call old.pass.told [] (λ i. record old.pass { events = sym (append-nil old.pass.events) i }) refl refl
-
--- steps after steps
-pub carried_then : (a b c : WorkerView) → RanToIdle a b → RanToIdle b c → RanToIdle a c
-carried_then a b c v w = record {
-  nodes = v.nodes ++ w.nodes;
-  opened = w.opened ∙ ap (λ l. l ++ w.nodes) v.opened ∙ append_assoc a.pass.opened v.nodes w.nodes;
-  core = (let l = length-append v.nodes w.nodes in
-      let sum : a.core.pushes + length v.nodes + length w.nodes ≡ a.core.pushes + length (v.nodes ++ w.nodes) = omega (arith, l) in
-      w.core ∙ ap (λ (e : HeldEnds ℕ). record e { own = e.own ++ w.nodes; pushes = e.pushes + length w.nodes }) v.core
-      ∙ (λ i. record a.core {
-        own = append_assoc a.core.own v.nodes w.nodes i;
-        pushes = sum i;
-      }));
-  worker = w.worker ∙ v.worker;
-  claims = w.claims ∙ v.claims;
-  claimed = w.claimed ∙ v.claimed;
-  refused = w.refused ∙ v.refused;
-  longer = front_then a.pass.book_seen b.pass.book_seen c.pass.book_seen v.longer w.longer;
-  found = w.found ∙ v.found;
-  stops = w.stops ∙ v.stops;
-  looks = (let p = v.looks in let q = w.looks in omega (arith, p, q));
-  events = front_then a.pass.events b.pass.events c.pass.events v.events w.events;
-  desk = helps_then a.desk b.desk c.desk v.desk w.desk;
-}

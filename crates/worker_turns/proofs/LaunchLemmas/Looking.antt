@@ -5,7 +5,6 @@ use Rattle.seq_objects.specs.declared.call.Call.{Call}
 use Rattle.core_model.specs.declared.event.Event.TheVariants.{Take}
 use Rattle.table_rule.specs.declared.view.HoldView.{HoldView}
 use Rattle.table_rule.specs.Passes.{after_take, after_pass, in_hold, taking, skipping}
-use Rattle.worker_turns.specs.Holds.{AreFit}
 use Rattle.table_rule.specs.declared.view.PassView.{PassView}
 use Rattle.core_model.proofs.BookLemmas.OwnEntries.{if_other}
 use Rattle.worker_turns.specs.Launches.{pending_in, AreFound, look_events}
@@ -21,10 +20,6 @@ none_yet p new = (
   record { each = refl; pending = refl },
   (λ i. record p { hold = none_looked p.hold new i; events = sym (append-nil p.events) i }),
 )
-
-pub fit_first : (h : Option HoldView) → Holds IsNewHold h → Holds AreFit h
-fit_first None new = absurd new
-fit_first (Some h) new = subst AreFit (sym new) (record { below = tt; serve = λ some. absurd (some refl) })
 
 next_in : (u : ℕ) (found : List ℕ) (calls : List Call) (h : Option HoldView) → Holds IsNewHold h
     → (k : HoldView) × (in_hold (after_looks u found calls) h ≡ Some k) × (u ≡ k.looks)

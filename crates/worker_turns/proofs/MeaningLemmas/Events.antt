@@ -98,16 +98,3 @@ free_events did.Nothing old new (inl (n, p)) = ap (λ (x : PassView). x.events) 
 free_events did.Nothing old new (inr (inl (spot, a, p, q))) = ap (λ (x : PassView). x.events) (both_pass (Stale spot) old a new p q)
 free_events did.Nothing old new (inr (inr (other, a, b, unrun, p, q, o))) =
     (nothing_stolen other b new unrun o).0 ∙ ap (λ (x : PassView). x.events) (both_pass Empty old a b p q)
-
-pub free_looked : (answer : Did) (old new : WorkerView) → IsFreeTurn answer old new → old.pass.stop_looks < new.pass.stop_looks
-free_looked did.Ran old new (inl (n, a, p, c)) =
-    let was = ap (λ (x : PassView). x.stop_looks) (node_pass (Claimed n) old a p) in let more = c.looks in omega (arith, was, more)
-free_looked did.Ran old new (inr (n, a, b, d, p, q, (deck, steal, same), c)) =
-    let was = ap (λ (m : WorkerView). m.pass.stop_looks) same ∙ ap (λ (x : PassView). x.stop_looks) (both_pass Empty old a b p q) in let more = c.looks in omega (arith, was, more)
-free_looked did.Piece old new (inl (spot, a, p, q)) = let was = ap (λ (x : PassView). x.stop_looks) (both_pass (Ran spot) old a new p q) in omega (arith, was)
-free_looked did.Piece old new (inr (spot, a, b, p, q, (deck, steal, same))) =
-    let was = ap (λ (m : WorkerView). m.pass.stop_looks) same ∙ ap (λ (x : PassView). x.stop_looks) (both_pass Empty old a b p q) in omega (arith, was)
-free_looked did.Nothing old new (inl (n, p)) = let was = ap (λ (x : PassView). x.stop_looks) (node_pass (Refused n) old new p) in omega (arith, was)
-free_looked did.Nothing old new (inr (inl (spot, a, p, q))) = let was = ap (λ (x : PassView). x.stop_looks) (both_pass (Stale spot) old a new p q) in omega (arith, was)
-free_looked did.Nothing old new (inr (inr (other, a, b, unrun, p, q, o))) =
-    let was = (nothing_stolen other b new unrun o).1 ∙ ap (λ (x : PassView). x.stop_looks) (both_pass Empty old a b p q) in omega (arith, was)

@@ -1,10 +1,9 @@
 -- What a worker does at its desk while it waits, one thing after another.
-use Rattle.std.proofs.Common.{◌≡◌, ℕ, ◌+◌, ◌==◌, eq-eqb, true, None, List, [], ◌∷◌, ◌++◌, length, drop, sym, refl, ap, ◌∙◌, subst, inl, inr, arith, append_assoc, append-nil, length-append, map}
+use Rattle.std.proofs.Common.{◌≡◌, ℕ, ◌+◌, None, List, [], ◌∷◌, ◌++◌, length, drop, sym, refl, ap, ◌∙◌, subst, inl, inr, arith, append_assoc, append-nil, length-append, map}
 use Rattle.std.proofs.lemmas.List.{drop-drop, map-append}
-use Rattle.two_deques.specs.declared.spot.Spot.{Spot}
 use Rattle.seq_objects.specs.Orders.{StrictlyAscends}
-use Rattle.piece_board.specs.Entries.{without, entry_at}
-use Rattle.piece_board.specs.Desks.{number_of, after_claim, after_finish, after_refusal, after_collect, after_empty_collect, after_post, posted_at}
+use Rattle.piece_board.specs.Entries.{entry_at}
+use Rattle.piece_board.specs.Desks.{after_refusal, after_empty_collect, after_post, posted_at}
 use Rattle.worker_turns.proofs.PieceLemmas.Posting.{next_free}
 use Rattle.launch_batch.specs.declared.piece.PieceIn.{PieceIn}
 use Rattle.worker_turns.specs.declared.attempts.PieceAttempt.{PieceAttempt}
@@ -12,14 +11,6 @@ use Rattle.worker_turns.specs.declared.attempts.PieceAttempt.TheVariants.{Ran, S
 use Rattle.launch_batch.specs.Pieces.{place_of}
 use Rattle.worker_crew.specs.Workers.{WorkerView}
 use Rattle.worker_turns.specs.Pieces.{IsOwnPiece, IsOtherPiece, Desk, with_place, after_posts, after_run, desk_after, after_works, DrainsRow}
-
--- the first entry is gone
-pub first_gone : {A : Type 0} (n : ℕ) (x : A) (es : List (ℕ × A)) → without n ((n, x) ∷ es) ≡ es
-first_gone n x es = let hit : (n == n) ≡ true = eq-eqb n n refl in rw hit refl
-
--- a piece that was claimed is finished
-pub claim_finished : (s : Spot) (x : PieceIn) (d : Desk) → after_finish s.row s.place (after_claim s.row s.place x d) ≡ after_run s d
-claim_finished s x d = λ i. record (after_run s d) { claims = first_gone (number_of s.row s.place) x d.claims i }
 
 -- the desk after so much, where some of it is said in another way
 after_is : (d e : Desk) (collected more finished : ℕ) (posted : List (ℕ × PieceIn)) (given refused : List (ℕ × ℕ)) (empty : ℕ)
@@ -62,16 +53,6 @@ works_empty d e is = record {
       (is ∙ ap (λ (n : ℕ). record d { empty_collects = n }) (sym (ap (λ (q : Desk). q.empty_collects) is)));
 }
 
--- the first place is collected
-pub works_one : (d e : Desk) (n : ℕ) (x : PieceIn) (rest : List (ℕ × PieceIn)) → d.posted ≡ (n, x) ∷ rest → e ≡ after_collect n d → DrainsRow 1 d e
-works_one d e n x rest first is = record {
-  given = [];
-  refused = [];
-  is = after_is d e 1 (d.collects + 1) d.finishes (without n d.posted) [] [] e.empty_collects
-      (ap (without n) first ∙ first_gone n x rest ∙ sym (ap (drop 1) first)) refl (omega arith) d.given d.refused (sym (append-nil _)) (sym (append-nil _))
-      (is ∙ ap (λ (n' : ℕ). record (after_collect n d) { empty_collects = n' }) (sym (ap (λ (q : Desk). q.empty_collects) is)));
-}
-
 pub works_then : (m n : ℕ) (a b c : Desk) → DrainsRow m a b → DrainsRow n b c → DrainsRow (m + n) a c
 works_then m n a b c v w = record {
   given = v.given ++ w.given;
@@ -86,10 +67,6 @@ works_then m n a b c v w = record {
 
 pub works_more : (m n : ℕ) (a b c : Desk) → DrainsRow m a b → DrainsRow n b c → (k : ℕ) → k ≡ m + n → DrainsRow k a c
 works_more m n a b c v w k is = subst (λ (j : ℕ). DrainsRow j a c) (sym is) (works_then m n a b c v w)
-
--- nothing is posted yet
-pub posted_none : (d : Desk) → d.posted ≡ [] → d ≡ after_posts [] d
-posted_none d free = λ i. record d { posted = free i; posts = sym (append-nil d.posts) i }
 
 -- one more piece is posted
 pub posted_more : (d e f : Desk) (front : List PieceIn) (n : ℕ) (x : PieceIn) → n ≡ place_of x

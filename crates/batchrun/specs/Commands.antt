@@ -5,7 +5,7 @@ use Rattle.batch_history.specs.declared.report.Report.{Report}
 use Rattle.batch_history.specs.Lawful.{Lawful}
 use Rattle.batch_history.specs.Summary.{summary_of_report, summary_of_job}
 use Rattle.core_model.specs.Reports.{IsRunReport}
-use Rattle.job_lang.specs.Generator.{generated}
+use Rattle.job_writer.specs.Generator.{generated}
 use Rattle.batchrun.specs.Words.{Command, step, run, gen}
 use Rattle.batchrun.specs.Outcomes.{PrintsRun, HasDriven, IsModelRun, FileCause, MadeCause, FileCompletes, IsFileAssured, FailsPast, IsUnlessMemory}
 use Rattle.batchrun.specs.declared.status.Status.{Status}

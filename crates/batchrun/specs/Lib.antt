@@ -6,7 +6,7 @@ pub use Rattle.program_io.specs.Reading
 pub use Rattle.sp_order.specs.Precedence
 pub use Rattle.sp_order.specs.Jobs
 pub use Rattle.job_lang.specs.Language
-pub use Rattle.job_lang.specs.Generator
+pub use Rattle.job_writer.specs.Generator
 pub use Rattle.batch_history.specs.Book
 pub use Rattle.batch_history.specs.Lawful
 pub use Rattle.batch_history.specs.Text

@@ -3,6 +3,7 @@ pub mod Arguments
 pub mod Cuts
 pub mod LeavesLines
 pub mod SmallActs
+pub mod SmallArguments
 pub mod TooManyLeaves
 pub mod WordCounts
 pub mod GoodWords

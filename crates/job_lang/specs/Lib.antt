@@ -7,12 +7,11 @@ pub use Rattle.job_syntax.specs.Faults
 pub use Rattle.job_syntax.specs.ItemsOf
 pub mod Counts
 pub mod Joins
+pub mod Orders
 pub mod Objects
 pub mod Meaning
 pub mod Uses
 pub mod Limits
 pub mod Language
-pub mod Canonical
-pub mod Generator
 pub mod ActNumbers
 pub mod Code

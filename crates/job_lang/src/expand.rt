@@ -6,18 +6,18 @@ ghost use Rattle.job_syntax.specs.Grammar.{block_then, nothing, AreItems};
 ghost use Rattle.job_lang.specs.Meaning.{each_copy, join_list, objects_in, shapes_in, job_of};
 ghost use Rattle.job_lang.specs.Code.Numbered.{AreSpelled};
 ghost use Rattle.job_lang.specs.Code.Scoped.{Adds, AddsCopies, AreKept};
-ghost use Rattle.job_lang.specs.Code.Orders.{join_by, join_in, shapes_inside};
+ghost use Rattle.job_lang.specs.Orders.{join_by};
+ghost use Rattle.job_lang.specs.Code.Orders.{join_in, shapes_inside};
 ghost use Rattle.job_lang.specs.Code.Ranges.{Fits};
 ghost use Rattle.job_syntax.specs.Views.{block_kind_of, item_of, items_of};
 
-pub(crate) mod join;
 mod leaves;
 pub(crate) mod objects;
 mod prune;
 
-use crate::expand::join::{Order, join, join_from};
 use crate::expand::leaves::Leaves;
 use crate::expand::prune::take_out_empty;
+use crate::join::{Order, join, join_from};
 use job_syntax::{BlockKind, Item};
 use sp_order::{Job, Shape};
 use std::alloc::{AllocError, Global};

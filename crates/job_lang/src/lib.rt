@@ -1,25 +1,21 @@
-//! The job language: which texts are jobs, the reader, the writer and the generator.
+//! The job language: which texts are jobs, and the reader.
 //!
 //! `read_job` gives the job of a text that the grammar accepts, and of any other text its one fault, with its line.
 //! `job_syntax` reads the bytes to words and the words to items. This crate defines what items mean and makes their
 //! job: `limits` counts the leaves and checks the range of arguments, and `expand` makes the copies of the loops, joins
-//! their shapes and numbers the objects that leaves name. `write_job` writes the canonical text of a job, which reads
-//! back as that job. `generate` makes a job from a seed and a size. `laws` says that each text has one job or one
-//! fault, and not both, that leaves call the objects that they name, and that a generated job has a text, has few
-//! leaves, and fills each structure before it queries it.
+//! their shapes by `join`, and numbers the objects that leaves name. `laws` says that each text has one job or one
+//! fault, and not both, and that leaves call the objects that they name. `job_writer`, above, writes the text of a job,
+//! and makes jobs from a seed, whose shapes it joins by `join` too.
 //!
 //! In `specs/` the rules stand at the top, and what only the code and its proofs cite in `Code/`. The crate stands on
 //! `job_syntax`, whose errors and faults it re-exports, and on `sp_order` and `seq_objects`.
 #![tactic(auto)]
 
 mod expand;
-mod generator;
+pub mod join;
 pub mod laws;
 mod limits;
 mod reader;
-mod writer;
 
-pub use generator::generate;
 pub use job_syntax::{JobErr, JobFault};
 pub use reader::read_job;
-pub use writer::write_job;

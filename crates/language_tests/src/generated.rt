@@ -1,5 +1,6 @@
 //! Generated jobs: their canonical texts, worked out by hand from the rules, and the size of the largest job.
-use job_lang::{generate, read_job, write_job};
+use job_lang::read_job;
+use job_writer::{generate, write_job};
 use std::alloc::{AllocError, Global};
 use std::test::Fail;
 

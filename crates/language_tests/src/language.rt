@@ -1,5 +1,6 @@
 //! Texts of the job language, each with its job or its fault.
-use job_lang::{JobErr, read_job, write_job};
+use job_lang::{JobErr, read_job};
+use job_writer::write_job;
 use std::alloc::{AllocError, Global};
 use std::test::Fail;
 

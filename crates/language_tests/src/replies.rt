@@ -1,5 +1,6 @@
 //! Texts with replies as arguments: the sources of their leaves, or their fault, and some canonical texts.
-use job_lang::{read_job, write_job};
+use job_lang::read_job;
+use job_writer::write_job;
 use std::alloc::{AllocError, Global};
 use std::fmt::Write;
 use std::test::Fail;

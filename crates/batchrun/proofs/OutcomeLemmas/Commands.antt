@@ -4,7 +4,7 @@ use Rattle.std.specs.Prelude.{IsTrue}
 use Rattle.batch_history.specs.declared.report.Report.{Report}
 use Rattle.batch_history.specs.Summary.{summary_of_job}
 use Rattle.core_model.specs.Reports.{IsRunReport}
-use Rattle.job_lang.specs.Generator.{generated}
+use Rattle.job_writer.specs.Generator.{generated}
 use Rattle.batchrun.specs.Words.{step, run, gen}
 use Rattle.batchrun.specs.Outcomes.{PrintsRun, HasDriven, IsModelRun, Prints, FileCause, MadeCause, FailsPast, IsUnlessMemory}
 use Rattle.batchrun.specs.Commands.{PrintsMade, PrintsSummary, Owes}

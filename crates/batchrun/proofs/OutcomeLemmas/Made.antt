@@ -5,7 +5,7 @@ use Rattle.sp_order.specs.Jobs.{JobValue}
 use Rattle.batch_history.specs.Lawful.{Lawful}
 use Rattle.batch_history.specs.declared.report.Report.{Report}
 use Rattle.batch_history.specs.Summary.{summary_of_report, summary_of_job}
-use Rattle.job_lang.specs.Generator.{generated}
+use Rattle.job_writer.specs.Generator.{generated}
 use Rattle.batchrun.specs.Words.{gen}
 use Rattle.batchrun.specs.Outcomes.{Prints, MadeCause, FailsPast, IsUnlessMemory}
 use Rattle.batchrun.specs.Commands.{PrintsMade, PrintsSummary}

@@ -5,7 +5,7 @@ ghost use Rattle.batch_history.specs.Lawful.{Lawful};
 ghost use Rattle.batch_history.specs.Summary.{CanBeSummed, summary_of_report, summary_of_job};
 ghost use Rattle.batch_history.specs.declared.report.Report.{Report};
 ghost use Rattle.core_model.specs.Reports.{IsDrivenReport, IsRunReport};
-ghost use Rattle.job_lang.specs.Generator.{generated};
+ghost use Rattle.job_writer.specs.Generator.{generated};
 ghost use Rattle.batchrun.specs.Words.{workers_named};
 ghost use Rattle.batchrun.specs.Outcomes.{PrintsRun, HasDriven, IsModelRun, Prints, FileCause, MadeCause, FailsPast, IsUnlessMemory};
 ghost use Rattle.batchrun.specs.Commands.{PrintsMade, PrintsSummary};
@@ -20,8 +20,8 @@ use crate::status::Status;
 use batch_history::Report;
 use batch_history::laws::{lawful_reports_name_their_objects, summary_is_the_jobs};
 use bt_io::{Pause, Shelf, Sink};
-use job_lang::generate;
-use job_lang::laws::{
+use job_writer::generate;
+use job_writer::laws::{
     generated_jobs_fill_first, generated_jobs_have_few_leaves, generated_jobs_have_small_arguments,
 };
 use sp_order::Job;

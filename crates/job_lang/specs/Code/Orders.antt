@@ -1,15 +1,9 @@
--- The ways in which the code joins shapes, as constructors of trees, and the shapes that it joins.
+-- How a block joins its shapes, as a constructor of trees, and the shapes that it joins.
 use Rattle.std.specs.Prelude.{ℕ, List}
-use Rattle.job_lang.specs.declared.expand.join.Order.{Order}
-use Rattle.job_lang.specs.declared.expand.join.Order.TheVariants.{Series, Parallel}
 use Rattle.job_lang.specs.Meaning.{shapes_in, each_copy, join_list}
 use Rattle.job_syntax.specs.Blocks.{word_number}
 use Rattle.job_syntax.specs.Grammar.{Items, BlockKind, seq_block, par_block, for_loop, pfor_loop}
 use Rattle.sp_order.specs.Precedence.{Tree, seq, par}
-
-abbrev pub join_by : Order → Tree → Tree → Tree
-join_by Series = seq
-join_by Parallel = par
 
 -- how a block of this kind joins its shapes
 abbrev pub join_in : BlockKind → Tree → Tree → Tree

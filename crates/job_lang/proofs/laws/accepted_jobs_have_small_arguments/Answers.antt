@@ -1,5 +1,5 @@
-use Rattle.job_lang.proofs.GeneratorLemmas.Arguments.{small_arguments}
 use Rattle.job_lang.proofs.LimitLemmas.SmallActs.{accepted_acts}
+use Rattle.job_lang.proofs.LimitLemmas.SmallArguments.{small_arguments}
 use Rattle.job_lang.proofs.laws.accepted_jobs_have_small_arguments.Goals as goal
 
 pub returns-clause-numbers : goal.returns-clause-numbers

@@ -1,5 +1,5 @@
 use Rattle.std.proofs.Common.{arith}
-use Rattle.job_lang.specs.Generator.{generated}
+use Rattle.job_writer.specs.Generator.{generated}
 use Rattle.batchrun.proofs.program.runs.generated_jobs_have_one_summary.Goals as goal
 
 pub returns-clause-sums : goal.returns-clause-sums

@@ -1,4 +1,0 @@
-use Rattle.job_lang.proofs.expand.join.+join_last.Given as goal
-
-abbrev pub decreases-join_last : goal.decreases-join_last
-decreases-join_last l = l.count

@@ -1,6 +1,0 @@
-use Rattle.std.proofs.Common.{◌≡◌, take}
-use Rattle.job_lang.specs.Generator.{finds_for}
-use Rattle.job_lang.proofs.generator.finds_for.Given as goal
-
-abbrev pub invariant-loop-op : goal.invariant-loop-op
-invariant-loop-op l = l.finds.items ≡ finds_for (take l.op-index l.ops)

@@ -1,5 +1,0 @@
-use Rattle.job_lang.proofs.GeneratorLemmas.Arguments.{generated_arguments}
-use Rattle.job_lang.proofs.laws.generated_jobs_have_small_arguments.Goals as goal
-
-pub returns : goal.returns
-returns c = generated_arguments

@@ -1,0 +1,2 @@
+pub mod GeneratorLemmas
+pub mod WriterLemmas

@@ -1,0 +1,5 @@
+-- What only the code and its proofs cite: no public contract speaks of it.
+pub mod Draws
+pub mod Sides
+pub mod Smalls
+pub mod Writable

@@ -10,7 +10,7 @@ use Rattle.job_syntax.specs.declared.item.Item.{Item, Leaf as ItemLeaf, Let as I
 use Rattle.job_syntax.specs.declared.item.Leaf.{Leaf as CodeLeaf}
 use Rattle.job_syntax.specs.declared.item.BlockKind.{BlockKind as CodeBlockKind}
 use Rattle.job_syntax.specs.Blocks.{name_kind}
-use Rattle.job_syntax.specs.Grammar.{Items, nothing, leaf_then, block_then, BlockKind, seq_block, par_block, for_loop, pfor_loop, ◌then◌, bound}
+use Rattle.job_syntax.specs.Grammar.{Items, nothing, leaf_then, block_then, BlockKind, for_loop, pfor_loop, ◌then◌, bound}
 use Rattle.job_syntax.specs.Views.{items_of, item_of, leaf_of, block_kind_of}
 use Rattle.job_syntax.proofs.ParserLemmas.Levels.{items_of_more, items_of_parts, item_of_leaf, item_of_let, item_of_block}
 use Rattle.job_lang.specs.declared.expand.leaves.Leaves.{Leaves}
@@ -20,7 +20,7 @@ use Rattle.job_lang.specs.Code.Numbered.{AreListed, NamesBehind}
 use Rattle.job_lang.specs.Code.Scoped.{lets_behind, scoped_sources, AreKept, Adds, AddsCopies}
 use Rattle.job_lang.proofs.ExpandLemmas.Copies.{acts_then, each_leaf_then}
 use Rattle.job_lang.proofs.ExpandLemmas.Leaves.{acts_count, each_length, each_leaf_count}
-use Rattle.job_lang.proofs.ExpandLemmas.Listing.{behind_nothing, behind_both}
+use Rattle.job_lang.proofs.ExpandLemmas.Listing.{behind_both}
 use Rattle.job_lang.proofs.ExpandLemmas.Scoped.{sources_then, scope_behind_then, job_sources}
 use Rattle.job_lang.proofs.LimitLemmas.Cuts.{count_then, count_more}
 use Rattle.std.specs.Prelude.{OnOk}

@@ -2,15 +2,14 @@
 use Rattle.std.proofs.Common.{rules, Vec, Global, ◌≡◌, ℕ, zero, suc, ◌+◌, ◌<◌, List, [], ◌∷◌, length, get_or, set, filter, Bool, true, false, refl, sym, ap, ◌∙◌, subst, arith}
 use Rattle.std.proofs.lemmas.Bool.{ne_eqb}
 use Rattle.std.specs.Prelude.{◌||◌, ◌&&◌, ◌==◌, not, nat_lt, if◌then◌else◌}
-use Rattle.job_syntax.specs.declared.item.Item.{Item, Leaf as ItemLeaf, Block}
-use Rattle.job_syntax.specs.declared.item.Leaf.{Leaf as CodeLeaf}
+use Rattle.job_syntax.specs.declared.item.Item.{Item, Block}
 use Rattle.job_syntax.specs.declared.item.BlockKind.{BlockKind as CodeBlockKind}
 use Rattle.job_syntax.specs.Grammar.{Items, nothing, leaf_then, block_then, BlockKind, ◌then◌}
 use Rattle.job_syntax.specs.Blocks.{copies_of}
 use Rattle.job_syntax.specs.declared.item.Item.TheOpen.{Item-F}
 use Rattle.job_syntax.specs.Views.{items_of, item_of, item_step, one_after_another, block_kind_of}
 use Rattle.job_lang.specs.Code.Pruning.{is_nothing, full_block_then, only_full, without_empty}
-use Rattle.job_syntax.proofs.ParserLemmas.Levels.{level_of, item_of_leaf, item_of_block}
+use Rattle.job_syntax.proofs.ParserLemmas.Levels.{level_of, item_of_block}
 
 block_then_by : (empty : Bool) (kind : BlockKind) (body more last : Items) → (if empty then more else block_then kind body more) then last ≡ (if empty then more then last else block_then kind body (more then last))
 block_then_by true kind body more last = refl

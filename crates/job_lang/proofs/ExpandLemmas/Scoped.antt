@@ -1,5 +1,5 @@
 -- The leaves that are added, item by item and copy by copy, and their sources by the meaning.
-use Rattle.std.proofs.Common.{◌≡◌, ℕ, zero, suc, ◌+◌, ◌*◌, Bool, true, false, not, List, [], ◌∷◌, ◌++◌, Option, Some, None, refl, sym, ap, ◌∙◌, arith, append_assoc, append-nil, subst}
+use Rattle.std.proofs.Common.{◌≡◌, ℕ, zero, suc, ◌+◌, ◌*◌, Bool, true, false, not, List, [], ◌∷◌, ◌++◌, Option, Some, refl, sym, ap, ◌∙◌, arith, append_assoc, append-nil, subst}
 use Rattle.std.specs.Prelude.{if◌then◌else◌}
 use Rattle.job_names.specs.declared.name.Name.{Name}
 use Rattle.job_names.specs.declared.kind.Kind.{Kind}
@@ -70,10 +70,6 @@ scope_behind_then scope first at a b e = with_two scope (lets_behind first a) (l
 
 abbrev pub Agrees : List Known → List Let → Type 0
 Agrees known lets = (name : Name) → leaf_known known name ≡ last_of name lets
-
-or_none : (a : Option ℕ) → or_else a None ≡ a
-or_none (Some n) = refl
-or_none None = refl
 
 known_first : (b : Bool) (here : ℕ) (rest other : Option ℕ) → (if b then Some here else or_else rest other) ≡ or_else (if b then Some here else rest) other
 known_first true here rest other = refl

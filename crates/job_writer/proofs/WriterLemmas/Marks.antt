@@ -1,8 +1,6 @@
 -- Which leaves are sources, source by source.
-use Rattle.std.proofs.Math.ListN.{set}
-use Rattle.std.proofs.Common.{◌≡◌, ℕ, zero, suc, ◌+◌, ◌<◌, List, [], ◌∷◌, ◌++◌, length, take, get_or, Result, Ok, Err, Bool, true, false, Option, Some, None, refl, sym, ap, ◌∙◌, arith, eqb-true, eq-eqb}
-use Rattle.std.specs.Prelude.{◌||◌, ◌==◌, slice_get, replicate, IfSome, OnOk}
-use Rattle.std.proofs.lemmas.Bool.{ne_eqb, eqb-false}
+use Rattle.std.proofs.Common.{◌≡◌, ℕ, zero, suc, ◌+◌, ◌<◌, List, [], ◌∷◌, ◌++◌, length, take, get_or, Result, Ok, Err, Bool, true, false, Option, Some, None, refl, sym, ap, ◌∙◌, arith}
+use Rattle.std.specs.Prelude.{◌||◌, slice_get, IfSome, OnOk}
 use Rattle.seq_objects.specs.declared.act.Act.{Act}
 use Rattle.seq_objects.specs.declared.act.Act.TheVariants.{Call}
 use Rattle.sp_order.specs.Precedence.{Tree}
@@ -37,14 +35,6 @@ all_taken [] zero e = refl
 all_taken [] (suc n) e = absurd (omega (arith, e))
 all_taken (first ∷ xs) zero e = absurd (omega (arith, e))
 all_taken (first ∷ xs) (suc n) e = ap (λ l. first ∷ l) (all_taken xs n (omega (arith, e)))
-
-pub set_length : (xs : List Bool) (i : ℕ) → length (set xs i true) ≡ length xs
-set_length [] i = refl
-set_length (x ∷ xs) zero = refl
-set_length (x ∷ xs) (suc i) = ap suc (set_length xs i)
-
-pub no_mark : (xs : List Bool) (leaf : ℕ) (was : Bool) → slice_get xs leaf ≡ Some was → slice_get xs leaf ≡ Some (was || false)
-no_mark xs leaf was e = e ∙ ap (λ b. Some b) (sym (or_false was))
 
 -- a job's source is one of its leaves
 pub source_below : (shape : Option Tree) (acts : List Act) (sources : List (Option ℕ)) (leaf : ℕ) (r : Option ℕ) → AreSources shape acts sources → slice_get sources leaf ≡ Some r → IfSome r (λ source. source < length acts)

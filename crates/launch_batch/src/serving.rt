@@ -17,7 +17,8 @@ use seq_objects::Call;
 use std::alloc::{AllocError, Global};
 
 /// Serves the calls as one batch, kind by kind, running the pieces of each one after another. The batch becomes the
-/// last of the shop's history, and the calls are put in its order. The shop is lost if memory runs out.
+/// last of the shop's history, and the calls are put in its order. If memory runs out, the shop is lost, and nothing is
+/// said of the calls.
 pub fn serve(alloc: Global, shop: Shop, calls: &mut Vec<Call>) -> Result<Shop, AllocError>
     requires { MayServe shop calls.old.items }
     ensures history { IfOk result (λ s. (batch : List EntryOf)

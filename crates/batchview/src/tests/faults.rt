@@ -1,8 +1,12 @@
 //! Words that are no file, texts that are no report, and faults of reading and of writing, one at a time.
-ghost use Rattle.std.specs.Prelude.{◌<◌};
-
-use crate::tests::{run, unhindered};
+use crate::tests::BatchView;
 use std::test::Fail;
+use test_rows::rows::{Hindered, Row};
+use test_rows::{Given, all_hold, first_changed, first_misread, first_miswritten, first_unlike};
+
+const USAGE: &[u8] = b"batchview: usage: batchview REPORT\n";
+
+const READ_FAULT: &[u8] = b"batchview: read fault\n";
 
 /// A report, its picture, which was drawn apart from the program, and a text that is no report.
 const REPORT: &[u8] = b"workers 1 leaves 1 calls 0 batches 0\n\
@@ -51,98 +55,72 @@ const PICTURE: &[u8] =
 
 const NO_REPORT: &[u8] = b"workers 1 leaves 1 calls 1 batches 1\n";
 
-/// Words that do not name a file that the shelf has, the exit number, and the line on err.
-const WORDS: [(&[&str], u8, &[u8]); 4] = [
-    (&[], 2, b"batchview: usage: batchview REPORT\n"),
-    (
-        &["report", "report"],
-        2,
-        b"batchview: usage: batchview REPORT\n",
-    ),
-    (&[""], 2, b"batchview: usage: batchview REPORT\n"),
-    (&["missing"], 3, b"batchview: read fault\n"),
+/// The words of a run over the file, and the file: of the report, and of the text that is none.
+const WORDS: &[&str] = &["report"];
+
+const FILES: &[(&str, &[u8])] = &[("report", REPORT)];
+
+const NO_REPORT_FILES: &[(&str, &[u8])] = &[("report", NO_REPORT)];
+
+/// Words that do not name a file that the shelf has.
+const OTHER_WORDS: &[Row] = &[
+    (&[], FILES, 2, b"", USAGE),
+    (&["report", "report"], FILES, 2, b"", USAGE),
+    (&[""], FILES, 2, b"", USAGE),
+    (&["missing"], FILES, 3, b"", READ_FAULT),
 ];
 
 #[test]
 fn other_words_are_a_wrong_use(rt: HostRuntime) -> Result<(), Fail> {
-    for (words, number, line) in WORDS {
-        let mut given = unhindered(REPORT);
-        given.words = words;
-        let ran = run(rt.alloc(), &given)?;
-        assert_eq!(rt; ran.status.number(), number, "{words:?}");
-        assert_eq!(rt; ran.out.bytes(), b"".as_slice(), "{words:?}");
-        assert_eq!(rt; ran.err.bytes(), line, "{words:?}");
-    }
-    Ok(())
+    all_hold(first_unlike(rt.alloc(), &BatchView, OTHER_WORDS)?)
 }
+
+/// A text that is no report.
+const REFUSED: &[Row] = &[(WORDS, NO_REPORT_FILES, 4, b"", b"batchview: not a report\n")];
 
 #[test]
 fn a_text_that_is_no_report_is_refused(rt: HostRuntime) -> Result<(), Fail> {
-    let ran = run(rt.alloc(), &unhindered(NO_REPORT))?;
-    assert_eq!(rt; ran.status.number(), 4);
-    assert_eq!(rt; ran.out.bytes(), b"".as_slice());
-    assert_eq!(rt; ran.err.bytes(), b"batchview: not a report\n".as_slice());
-    Ok(())
+    all_hold(first_unlike(rt.alloc(), &BatchView, REFUSED)?)
 }
 
 #[test]
 fn each_call_of_the_shelf_fails_in_turn(rt: HostRuntime) -> Result<(), Fail> {
     // One call chooses the file. Each other call gives at most 5 bytes, and the last one none.
     let calls = REPORT.len().div_ceil(5) + 2;
-    for call in 0..calls + 1 {
-        let fails = [call as u64];
-        let mut given = unhindered(REPORT);
-        given.read_cut = 5;
-        given.read_fails = &fails;
-        let ran = run(rt.alloc(), &given)?;
-        let (number, picture, line): (u8, &[u8], &[u8]) = if call < calls {
-            (3, b"", b"batchview: read fault\n")
-        } else {
-            (0, PICTURE, b"")
-        };
-        assert_eq!(rt; ran.status.number(), number, "call {call}");
-        assert_eq!(rt; ran.out.bytes(), picture, "call {call}");
-        assert_eq!(rt; ran.err.bytes(), line, "call {call}");
-    }
-    Ok(())
+    let given = Given {
+        read_cut: 5,
+        ..Given::unhindered(WORDS, FILES)
+    };
+    all_hold(first_misread(
+        rt.alloc(),
+        &BatchView,
+        &given,
+        calls,
+        Some(PICTURE),
+        READ_FAULT,
+    )?)
 }
 
 #[test]
 fn each_write_fails_in_turn(rt: HostRuntime) -> Result<(), Fail> {
-    // Each write takes at most 100 bytes.
-    for write in 0..PICTURE.len().div_ceil(100) {
-        let fails = [write as u64];
-        let mut given = unhindered(REPORT);
-        given.write_cut = 100;
-        given.write_fails = &fails;
-        let ran = run(rt.alloc(), &given)?;
-        assert_eq!(rt; ran.status.number(), 5, "write {write}");
-        assert_eq!(rt; ran.out.bytes(), &PICTURE[..100 * write], "write {write}");
-        assert_eq!(rt; ran.err.bytes(), b"batchview: write fault\n".as_slice());
-    }
-    Ok(())
+    let given = Given {
+        write_cut: 100,
+        ..Given::unhindered(WORDS, FILES)
+    };
+    let fault = b"batchview: write fault\n";
+    all_hold(first_miswritten(rt.alloc(), &BatchView, &given, 0, PICTURE, fault)?)
 }
 
-/// The words of a run, its report, the calls of the shelf and the writes of out that fail, and the exit number.
-const RUNS: [(&[&str], &[u8], &[u64], &[u64], u8); 5] = [
-    (&[], REPORT, &[], &[], 2),
-    (&["report"], REPORT, &[1], &[], 3),
-    (&["report"], NO_REPORT, &[], &[], 4),
-    (&["report"], REPORT, &[], &[0], 5),
-    (&["report"], REPORT, &[], &[], 0),
+/// Runs of each exit number but that of lost memory.
+const RUNS: &[Hindered] = &[
+    (&[], FILES, &[], &[], 2),
+    (WORDS, FILES, &[1], &[], 3),
+    (WORDS, NO_REPORT_FILES, &[], &[], 4),
+    (WORDS, FILES, &[], &[0], 5),
+    (WORDS, FILES, &[], &[], 0),
 ];
 
 #[test]
 fn a_fault_of_err_changes_no_status(rt: HostRuntime) -> Result<(), Fail> {
-    for (words, report, read_fails, write_fails, number) in RUNS {
-        let mut given = unhindered(report);
-        given.words = words;
-        given.read_fails = read_fails;
-        given.write_fails = write_fails;
-        given.err_fails = &[0];
-        let ran = run(rt.alloc(), &given)?;
-        assert_eq!(rt; ran.status.number(), number, "{words:?}");
-        assert_eq!(rt; ran.err.bytes(), b"".as_slice(), "{words:?}");
-    }
-    Ok(())
+    all_hold(first_changed(rt.alloc(), &BatchView, RUNS)?)
 }

@@ -1,10 +1,11 @@
 //! Scripts, the lines that they print, and the lines on which faulty ones are refused.
-use crate::tests::{run, unhindered};
-use std::alloc::{AllocError, Global};
+use crate::tests::BulkRun;
 use std::test::Fail;
+use test_rows::all_hold;
+use test_rows::scripts::{Judged, first_misjudged, first_misprinted};
 
 /// Scripts, and the lines that they print.
-const WORKED: [(&[u8], &[u8]); 11] = [
+const WORKED: &[(&[u8], &[u8])] = &[
     (b"", b""),
     (b" \t\r\n go \ngo\n\n", b""),
     (
@@ -66,13 +67,7 @@ no no no no no no no no no no no no no no no no no no no no no no no no no no no
 
 #[test]
 fn worked_scripts_print_their_lines(rt: HostRuntime) -> Result<(), Fail> {
-    for (text, lines) in WORKED {
-        let ran = run(&rt, rt.alloc(), &unhindered(text))?;
-        assert_eq!(rt; ran.status.number(), 0);
-        assert_eq!(rt; ran.out.bytes(), lines);
-        assert_eq!(rt; ran.err.bytes(), b"".as_slice());
-    }
-    Ok(())
+    all_hold(first_misprinted(rt.alloc(), &BulkRun { rt: &rt }, WORKED)?)
 }
 
 /// 32 finds, and the end of their batch.
@@ -81,65 +76,44 @@ const FULL_BATCH: &str =
 find 1\nfind 1\nfind 1\nfind 1\nfind 1\nfind 1\nfind 1\nfind 1\nfind 1\nfind 1\nfind 1\nfind 1\n\
 find 1\nfind 1\nfind 1\nfind 1\nfind 1\nfind 1\nfind 1\nfind 1\ngo\n";
 
-/// Texts that are no script: their parts, each with how often it stands, and what the line on err says.
-const FAULTY: [(&[(&str, usize)], &str); 14] = [
-    (&[("insert", 1)], "1: not a call"),
-    (&[("find", 1), (" 1", 65)], "1: not a call"),
-    (&[("insert 1 02", 1)], "1: not a call"),
-    (&[("insert 1 -2", 1)], "1: not a call"),
-    (&[("remove 4294967296", 1)], "1: not a call"),
-    (&[("Find 1", 1)], "1: not a call"),
-    (&[("1", 1)], "1: not a call"),
-    (&[("find 1\0", 1)], "1: not a call"),
-    (&[("find 1\ngo 1", 1)], "2: not a call"),
-    (&[("\n\nfinds 1", 1)], "3: not a call"),
-    (&[("find 1\n", 33)], "33: batch too large"),
-    (&[("find 1\n", 32), ("find", 1)], "33: not a call"),
-    (&[(FULL_BATCH, 1), ("find 1\n", 33)], "66: batch too large"),
+/// Texts that are no script.
+const FAULTY: &[Judged] = &[
+    (&[("insert", 1)], "line 1: not a call"),
+    (&[("find", 1), (" 1", 65)], "line 1: not a call"),
+    (&[("insert 1 02", 1)], "line 1: not a call"),
+    (&[("insert 1 -2", 1)], "line 1: not a call"),
+    (&[("remove 4294967296", 1)], "line 1: not a call"),
+    (&[("Find 1", 1)], "line 1: not a call"),
+    (&[("1", 1)], "line 1: not a call"),
+    (&[("find 1\0", 1)], "line 1: not a call"),
+    (&[("find 1\ngo 1", 1)], "line 2: not a call"),
+    (&[("\n\nfinds 1", 1)], "line 3: not a call"),
+    (&[("find 1\n", 33)], "line 33: batch too large"),
+    (&[("find 1\n", 32), ("find", 1)], "line 33: not a call"),
+    (
+        &[(FULL_BATCH, 1), ("find 1\n", 33)],
+        "line 66: batch too large",
+    ),
     (
         &[(FULL_BATCH, 3125), ("find 1", 1)],
-        "103126: too many calls",
+        "line 103126: too many calls",
     ),
 ];
 
-/// A text of these parts.
-fn text_of(alloc: Global, parts: &[(&str, usize)]) -> Result<String, AllocError> {
-    let mut text = String::new(alloc);
-    for (part, times) in parts {
-        for _ in 0..*times {
-            text.push_str(part)?;
-        }
-    }
-    Ok(text)
-}
-
 #[test]
 fn faulty_scripts_are_refused_on_their_line(rt: HostRuntime) -> Result<(), Fail> {
-    for (parts, fault) in FAULTY {
-        let text = text_of(rt.alloc(), parts)?;
-        let ran = run(&rt, rt.alloc(), &unhindered(text.as_bytes()))?;
-        let line = format!(in rt.alloc(); "bulkrun: line {fault}\n")?;
-        assert_eq!(rt; ran.status.number(), 4);
-        assert_eq!(rt; ran.out.bytes(), b"".as_slice());
-        assert_eq!(rt; ran.err.bytes(), line.as_bytes());
-    }
-    Ok(())
+    let program = BulkRun { rt: &rt };
+    all_hold(first_misjudged(rt.alloc(), &program, "bulkrun", FAULTY)?)
 }
 
-/// How many spaces a file has, the exit number, and the line on err.
-const LENGTHS: [(usize, u8, &[u8]); 2] = [
-    (1_048_576, 0, b""),
-    (1_048_577, 4, b"bulkrun: script longer than 1048576 bytes\n"),
+/// As many spaces as a script has at most, and one more.
+const LENGTHS: &[Judged] = &[
+    (&[(" ", 1_048_576)], ""),
+    (&[(" ", 1_048_577)], "script longer than 1048576 bytes"),
 ];
 
 #[test]
 fn a_script_has_at_most_1048576_bytes(rt: HostRuntime) -> Result<(), Fail> {
-    for (length, number, line) in LENGTHS {
-        let text = " ".repeat(rt.alloc(), length)?;
-        let ran = run(&rt, rt.alloc(), &unhindered(text.as_bytes()))?;
-        assert_eq!(rt; ran.status.number(), number);
-        assert_eq!(rt; ran.out.bytes(), b"".as_slice());
-        assert_eq!(rt; ran.err.bytes(), line);
-    }
-    Ok(())
+    let program = BulkRun { rt: &rt };
+    all_hold(first_misjudged(rt.alloc(), &program, "bulkrun", LENGTHS)?)
 }

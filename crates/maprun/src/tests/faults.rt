@@ -1,30 +1,12 @@
 //! Words that are no file, and faults of reading and of writing, one at a time.
-ghost use Rattle.std.specs.Prelude.{◌<◌};
-
-use crate::tests::{run, unhindered};
+use crate::tests::MapRun;
 use std::test::Fail;
+use test_rows::rows::{Hindered, Row};
+use test_rows::{Given, all_hold, first_changed, first_misread, first_miswritten, first_unlike};
 
-/// Words that do not name one file that the shelf has, the exit number, and the line on err.
-const WORDS: [(&[&str], u8, &[u8]); 5] = [
-    (&[], 2, b"maprun: usage: maprun FILE\n"),
-    (&[""], 2, b"maprun: usage: maprun FILE\n"),
-    (&["-", "-"], 2, b"maprun: usage: maprun FILE\n"),
-    (&["-", ""], 2, b"maprun: usage: maprun FILE\n"),
-    (&["missing"], 3, b"maprun: read fault\n"),
-];
+const USAGE: &[u8] = b"maprun: usage: maprun FILE\n";
 
-#[test]
-fn other_words_are_a_wrong_use(rt: HostRuntime) -> Result<(), Fail> {
-    for (words, number, line) in WORDS {
-        let mut given = unhindered(b"put 1 1");
-        given.words = words;
-        let ran = run(&rt, rt.alloc(), &given)?;
-        assert_eq!(rt; ran.status.number(), number, "{words:?}");
-        assert_eq!(rt; ran.out.bytes(), b"".as_slice(), "{words:?}");
-        assert_eq!(rt; ran.err.bytes(), line, "{words:?}");
-    }
-    Ok(())
-}
+const READ_FAULT: &[u8] = b"maprun: read fault\n";
 
 /// A script, and the lines that it prints.
 const SCRIPT: &[u8] = b"put 1 7\nrank 1\ngo\nget 1\n";
@@ -33,64 +15,52 @@ const LINES: &[u8] = b"batch 0 place 0 worker 1 rank 1 -> 0\n\
 batch 0 place 1 worker 0 put 1 7 -> empty\n\
 batch 1 place 0 worker 0 get 1 -> 7\n";
 
+/// Words that do not name one file that the shelf has.
+const WORDS: &[Row] = &[
+    (&[], &[("-", SCRIPT)], 2, b"", USAGE),
+    (&[""], &[("-", SCRIPT)], 2, b"", USAGE),
+    (&["-", "-"], &[("-", SCRIPT)], 2, b"", USAGE),
+    (&["-", ""], &[("-", SCRIPT)], 2, b"", USAGE),
+    (&["missing"], &[("-", SCRIPT)], 3, b"", READ_FAULT),
+];
+
+#[test]
+fn other_words_are_a_wrong_use(rt: HostRuntime) -> Result<(), Fail> {
+    all_hold(first_unlike(rt.alloc(), &MapRun { rt: &rt }, WORDS)?)
+}
+
 #[test]
 fn each_call_of_the_shelf_fails_in_turn(rt: HostRuntime) -> Result<(), Fail> {
     // Call 0 chooses the file. Each other call gives at most 5 bytes, and the last one none.
     let calls = SCRIPT.len().div_ceil(5) + 2;
-    for call in 0..calls + 1 {
-        let fails = [call as u64];
-        let mut given = unhindered(SCRIPT);
-        given.read_cut = 5;
-        given.read_fails = &fails;
-        let ran = run(&rt, rt.alloc(), &given)?;
-        let (number, lines, line): (u8, &[u8], &[u8]) = if call < calls {
-            (3, b"", b"maprun: read fault\n")
-        } else {
-            (0, LINES, b"")
-        };
-        assert_eq!(rt; ran.status.number(), number, "call {call}");
-        assert_eq!(rt; ran.out.bytes(), lines, "call {call}");
-        assert_eq!(rt; ran.err.bytes(), line, "call {call}");
-    }
-    Ok(())
+    let given = Given {
+        read_cut: 5,
+        ..Given::unhindered(&["-"], &[("-", SCRIPT)])
+    };
+    let program = MapRun { rt: &rt };
+    all_hold(first_misread(rt.alloc(), &program, &given, calls, Some(LINES), READ_FAULT)?)
 }
 
 #[test]
 fn each_write_fails_in_turn(rt: HostRuntime) -> Result<(), Fail> {
-    // Each write takes at most 20 bytes.
-    for write in 0..LINES.len().div_ceil(20) {
-        let fails = [write as u64];
-        let mut given = unhindered(SCRIPT);
-        given.write_cut = 20;
-        given.write_fails = &fails;
-        let ran = run(&rt, rt.alloc(), &given)?;
-        assert_eq!(rt; ran.status.number(), 5, "write {write}");
-        assert_eq!(rt; ran.out.bytes(), &LINES[..20 * write], "write {write}");
-        assert_eq!(rt; ran.err.bytes(), b"maprun: write fault\n".as_slice());
-    }
-    Ok(())
+    let given = Given {
+        write_cut: 20,
+        ..Given::unhindered(&["-"], &[("-", SCRIPT)])
+    };
+    let fault = b"maprun: write fault\n";
+    all_hold(first_miswritten(rt.alloc(), &MapRun { rt: &rt }, &given, 0, LINES, fault)?)
 }
 
-/// The words of a run, its script, the calls of the shelf and the writes of out that fail, and the exit number.
-const RUNS: [(&[&str], &[u8], &[u64], &[u64], u8); 5] = [
-    (&[], b"nth 0", &[], &[], 2),
-    (&["-"], b"nth 0", &[1], &[], 3),
-    (&["-"], b"put", &[], &[], 4),
-    (&["-"], b"nth 0", &[], &[0], 5),
-    (&["-"], b"nth 0", &[], &[], 0),
+/// Runs of each exit number but that of lost memory.
+const RUNS: &[Hindered] = &[
+    (&[], &[("-", b"nth 0")], &[], &[], 2),
+    (&["-"], &[("-", b"nth 0")], &[1], &[], 3),
+    (&["-"], &[("-", b"put")], &[], &[], 4),
+    (&["-"], &[("-", b"nth 0")], &[], &[0], 5),
+    (&["-"], &[("-", b"nth 0")], &[], &[], 0),
 ];
 
 #[test]
 fn a_fault_of_err_changes_no_status(rt: HostRuntime) -> Result<(), Fail> {
-    for (words, text, read_fails, write_fails, number) in RUNS {
-        let mut given = unhindered(text);
-        given.words = words;
-        given.read_fails = read_fails;
-        given.write_fails = write_fails;
-        given.err_fails = &[0];
-        let ran = run(&rt, rt.alloc(), &given)?;
-        assert_eq!(rt; ran.status.number(), number, "{words:?}");
-        assert_eq!(rt; ran.err.bytes(), b"".as_slice(), "{words:?}");
-    }
-    Ok(())
+    all_hold(first_changed(rt.alloc(), &MapRun { rt: &rt }, RUNS)?)
 }

@@ -1,10 +1,11 @@
 //! Scripts, the lines that they print, and the lines on which faulty ones are refused.
-use crate::tests::{run, unhindered};
-use std::alloc::{AllocError, Global};
+use crate::tests::MapRun;
 use std::test::Fail;
+use test_rows::all_hold;
+use test_rows::scripts::{Judged, first_misjudged, first_misprinted};
 
 /// Scripts, and the lines that they print. In the last one, a batch has 9 ranges of keys.
-const WORKED: [(&[u8], &[u8]); 9] = [
+const WORKED: &[(&[u8], &[u8])] = &[
     (b"", b""),
     (b" \t\r\n go \ngo\n\n", b""),
     (
@@ -106,76 +107,46 @@ batch 1 place 20 worker 19 del 100 -> 10\n",
 
 #[test]
 fn worked_scripts_print_their_lines(rt: HostRuntime) -> Result<(), Fail> {
-    for (text, lines) in WORKED {
-        let ran = run(&rt, rt.alloc(), &unhindered(text))?;
-        assert_eq!(rt; ran.status.number(), 0);
-        assert_eq!(rt; ran.out.bytes(), lines);
-        assert_eq!(rt; ran.err.bytes(), b"".as_slice());
-    }
-    Ok(())
+    all_hold(first_misprinted(rt.alloc(), &MapRun { rt: &rt }, WORKED)?)
 }
 
-/// Texts that are no script: their parts, each with how often it stands, and what the line on err says.
-const FAULTY: [(&[(&str, usize)], &str); 16] = [
-    (&[("put 1", 1)], "1: not a call"),
-    (&[("put 1 2 3", 1)], "1: not a call"),
-    (&[("put 01 1", 1)], "1: not a call"),
-    (&[("put 1 01", 1)], "1: not a call"),
-    (&[("put 4294967296 1", 1)], "1: not a call"),
-    (&[("put 1 4294967296", 1)], "1: not a call"),
-    (&[("del", 1)], "1: not a call"),
-    (&[("get 1 2", 1)], "1: not a call"),
-    (&[("rank 4294967296", 1)], "1: not a call"),
-    (&[("nth -1", 1)], "1: not a call"),
-    (&[("nth 4294967296", 1)], "1: not a call"),
-    (&[("Get 1", 1)], "1: not a call"),
-    (&[("put 1 1\ngo 1", 1)], "2: not a call"),
-    (&[("nth 0\n", 33)], "33: batch too large"),
-    (&[("nth 0\n", 32), ("put 1", 1)], "33: not a call"),
+/// Texts that are no script.
+const FAULTY: &[Judged] = &[
+    (&[("put 1", 1)], "line 1: not a call"),
+    (&[("put 1 2 3", 1)], "line 1: not a call"),
+    (&[("put 01 1", 1)], "line 1: not a call"),
+    (&[("put 1 01", 1)], "line 1: not a call"),
+    (&[("put 4294967296 1", 1)], "line 1: not a call"),
+    (&[("put 1 4294967296", 1)], "line 1: not a call"),
+    (&[("del", 1)], "line 1: not a call"),
+    (&[("get 1 2", 1)], "line 1: not a call"),
+    (&[("rank 4294967296", 1)], "line 1: not a call"),
+    (&[("nth -1", 1)], "line 1: not a call"),
+    (&[("nth 4294967296", 1)], "line 1: not a call"),
+    (&[("Get 1", 1)], "line 1: not a call"),
+    (&[("put 1 1\ngo 1", 1)], "line 2: not a call"),
+    (&[("nth 0\n", 33)], "line 33: batch too large"),
+    (&[("nth 0\n", 32), ("put 1", 1)], "line 33: not a call"),
     (
         &[("nth 0\ngo\n", 100_000), ("nth 0", 1)],
-        "200001: too many calls",
+        "line 200001: too many calls",
     ),
 ];
 
-/// A text of these parts.
-fn text_of(alloc: Global, parts: &[(&str, usize)]) -> Result<String, AllocError> {
-    let mut text = String::new(alloc);
-    for (part, times) in parts {
-        for _ in 0..*times {
-            text.push_str(part)?;
-        }
-    }
-    Ok(text)
-}
-
 #[test]
 fn faulty_scripts_are_refused_on_their_line(rt: HostRuntime) -> Result<(), Fail> {
-    for (parts, fault) in FAULTY {
-        let text = text_of(rt.alloc(), parts)?;
-        let ran = run(&rt, rt.alloc(), &unhindered(text.as_bytes()))?;
-        let line = format!(in rt.alloc(); "maprun: line {fault}\n")?;
-        assert_eq!(rt; ran.status.number(), 4);
-        assert_eq!(rt; ran.out.bytes(), b"".as_slice());
-        assert_eq!(rt; ran.err.bytes(), line.as_bytes());
-    }
-    Ok(())
+    let program = MapRun { rt: &rt };
+    all_hold(first_misjudged(rt.alloc(), &program, "maprun", FAULTY)?)
 }
 
-/// How many spaces a file has, the exit number, and the line on err.
-const LENGTHS: [(usize, u8, &[u8]); 2] = [
-    (1_048_576, 0, b""),
-    (1_048_577, 4, b"maprun: script longer than 1048576 bytes\n"),
+/// As many spaces as a script has at most, and one more.
+const LENGTHS: &[Judged] = &[
+    (&[(" ", 1_048_576)], ""),
+    (&[(" ", 1_048_577)], "script longer than 1048576 bytes"),
 ];
 
 #[test]
 fn a_script_has_at_most_1048576_bytes(rt: HostRuntime) -> Result<(), Fail> {
-    for (length, number, line) in LENGTHS {
-        let text = " ".repeat(rt.alloc(), length)?;
-        let ran = run(&rt, rt.alloc(), &unhindered(text.as_bytes()))?;
-        assert_eq!(rt; ran.status.number(), number);
-        assert_eq!(rt; ran.out.bytes(), b"".as_slice());
-        assert_eq!(rt; ran.err.bytes(), line);
-    }
-    Ok(())
+    let program = MapRun { rt: &rt };
+    all_hold(first_misjudged(rt.alloc(), &program, "maprun", LENGTHS)?)
 }

@@ -1,15 +1,13 @@
 //! Runs of the core in which a worker has stopped for good.
-ghost use Rattle.std.specs.Prelude.{◌≡◌, ◌<◌, ◌≤◌, ◌+◌, ◌^◌, ℕ, length, IsSome};
-ghost use Rattle.seq_objects.specs.Kept.{store_in};
+ghost use Rattle.std.specs.Prelude.{◌≡◌, IsSome};
 
 use crate::jobs::job_of;
-use batch_history::Entry;
 use batcher_core::{Core, Ended, Spun, Turn, drive_some};
-use seq_objects::{Op, Plain, Reply, value};
 use sp_order::Job;
 use std::alloc::{AllocError, Global};
 use std::test::Fail;
-use test_texts::text_of;
+use test_rows::all_hold;
+use test_texts::{replayed, text_of};
 
 const TWO_ADDS: &[u8] = b"par { counter add 1 counter add 2 }";
 
@@ -35,54 +33,18 @@ const ENDS: [&str; 2] = [
     "oooosssssssssssssssssssssssssssssso",
 ];
 
-/// The entries of the book so far. There are none of a spent core.
-fn entries_of(alloc: Global, core: &Core) -> Result<Vec<Entry>, AllocError> {
-    let mut entries = Vec::new(alloc);
-    if let Some(history) = core.history() {
-        for batch in history.batches() {
-            entries.extend_from_slice(batch.entries())?;
-        }
+/// How many calls the book has so far, where the core is not spent and the serial objects give their replies.
+fn calls_of(alloc: Global, core: &Core) -> Result<Option<usize>, AllocError> {
+    match core.history() {
+        Some(history) => replayed(alloc, history),
+        None => Ok(None),
     }
-    Ok(entries)
-}
-
-/// Serves one operation where the counters are far from their end. The match has two arms alike, so that the range
-/// of the addend is known.
-#[tactic(auto, using(batch_history::proofs::Counters::grown))]
-fn serve_one(plain: &mut Plain, op: Op) -> Result<Reply, AllocError>
-    requires { (number : ℕ) → (store_in plain.old number).counter < 2 ^ 63 }
-    ensures { (number : ℕ) → (store_in plain.new number).counter ≤ (store_in plain.old number).counter + 2 ^ 32 }
-{
-    match op {
-        Op::CounterAdd(number, addend) => plain.serve(Op::CounterAdd(number, addend)),
-        _ => plain.serve(op),
-    }
-}
-
-/// The place of the first entry to which the serial objects reply otherwise, if there is one.
-fn first_wrong(alloc: Global, entries: &[Entry]) -> Result<Option<usize>, AllocError>
-    requires { length entries.now < 1000 }
-{
-    let mut plain = Plain::new(alloc);
-    for (place, entry) in entries.iter().enumerate() {
-        let replied = serve_one(&mut plain, entry.op)?;
-        if value(replied) != value(entry.reply) {
-            return Ok(Some(place));
-        }
-    }
-    Ok(None)
-}
-
-/// Whether the serial objects give the replies of the book so far.
-fn replays(alloc: Global, core: &Core) -> Result<bool, AllocError> {
-    let entries = entries_of(alloc, core)?;
-    Ok(entries.len() < 1000 && first_wrong(alloc, &entries)?.is_none())
 }
 
 /// Takes so many turns, round robin. Answers whether before each the book replayed.
 fn take_turns(alloc: Global, core: &mut Core, turns: u32) -> Result<bool, AllocError> {
     for turn in 0..turns {
-        if !replays(alloc, core)? {
+        if calls_of(alloc, core)?.is_none() {
             return Ok(false);
         }
         let worker = turn % core.workers();
@@ -118,7 +80,7 @@ fn ended(alloc: Global, job: &Job, turns: u32, stopped: u32) -> Result<Option<En
 
 /// The mark of a stuck core: `s` where its book replays and both workers end what is left, and `?` elsewhere.
 fn mark_of_stuck(alloc: Global, core: Core) -> Result<char, AllocError> {
-    if !replays(alloc, &core)? || core.workers() != 2 {
+    if calls_of(alloc, &core)?.is_none() || core.workers() != 2 {
         return Ok('?');
     }
     match drive_some(alloc, core, &[true, true])? {
@@ -145,40 +107,47 @@ fn ends(alloc: Global, job: &Job, stopped: u32) -> Result<String, AllocError>
     Ok(marks)
 }
 
-/// How many entries a core has that is not spent.
-fn count_entries(alloc: Global, core: &Core) -> Result<Option<usize>, AllocError> {
-    if core.history().is_none() {
-        return Ok(None);
-    }
-    Ok(Some(entries_of(alloc, core)?.len()))
-}
-
-/// The text of the report, or how many entries the stuck core has, where worker 0 stops after so many turns.
-fn told(alloc: Global, job: &Job, turns: u32) -> Result<(Vec<u8>, Option<usize>), AllocError>
+/// The place of the worker that stops with other ends, if there is one.
+fn first_other_end(alloc: Global, job: &Job) -> Result<Option<usize>, AllocError>
     requires { IsSome job.now.shape }
 {
-    match ended(alloc, job, turns, 0)? {
-        None => Ok((Vec::new(alloc), None)),
-        Some(Ended::Over(report)) => Ok((text_of(alloc, job, &report)?, None)),
-        Some(Ended::Stuck(core)) => Ok((Vec::new(alloc), count_entries(alloc, &core)?)),
+    for (stopped, marks) in ENDS.iter().enumerate() {
+        if ends(alloc, job, stopped as u32)?.as_str() != *marks {
+            return Ok(Some(stopped));
+        }
+    }
+    Ok(None)
+}
+
+#[test]
+fn after_each_turn_a_worker_may_stop(rt: HostRuntime) -> Result<(), Fail> {
+    let job = job_of(rt.alloc(), TWO_ADDS).expect(&rt, "a job");
+    all_hold(first_other_end(rt.alloc(), &job)?)
+}
+
+/// Whether the run is over with worker 1 having done all, where worker 0 stops before its first turn.
+fn is_done_by_worker_1(alloc: Global, job: &Job) -> Result<bool, AllocError>
+    requires { IsSome job.now.shape }
+{
+    match ended(alloc, job, 0, 0)? {
+        Some(Ended::Over(report)) => Ok(text_of(alloc, job, &report)?.as_slice() == BY_WORKER_1),
+        _ => Ok(false),
+    }
+}
+
+/// Whether the run is stuck with no call served, where worker 0 stops behind its first turn.
+fn is_stuck_uncalled(alloc: Global, job: &Job) -> Result<bool, AllocError>
+    requires { IsSome job.now.shape }
+{
+    match ended(alloc, job, 1, 0)? {
+        Some(Ended::Stuck(core)) => Ok(calls_of(alloc, &core)? == Some(0)),
+        _ => Ok(false),
     }
 }
 
 #[test]
 fn a_worker_that_stops_without_a_task_costs_nothing(rt: HostRuntime) -> Result<(), Fail> {
-    let alloc = rt.alloc();
-    let job = job_of(alloc, TWO_ADDS).expect(&rt, "a job");
-    let (text, _) = told(alloc, &job, 0)?;
-    let (_, entries) = told(alloc, &job, 1)?;
-    assert_eq!(rt; (text.as_slice(), entries), (BY_WORKER_1, Some(0)));
-    Ok(())
-}
-
-#[test]
-fn after_each_turn_a_worker_may_stop(rt: HostRuntime) -> Result<(), Fail> {
-    let alloc = rt.alloc();
-    let job = job_of(alloc, TWO_ADDS).expect(&rt, "a job");
-    let found = [ends(alloc, &job, 0)?, ends(alloc, &job, 1)?];
-    assert_eq!(rt; (found[0].as_str(), found[1].as_str()), (ENDS[0], ENDS[1]));
+    let job = job_of(rt.alloc(), TWO_ADDS).expect(&rt, "a job");
+    assert!(rt; is_done_by_worker_1(rt.alloc(), &job)? && is_stuck_uncalled(rt.alloc(), &job)?);
     Ok(())
 }

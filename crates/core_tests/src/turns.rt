@@ -5,11 +5,12 @@ use crate::jobs::job_of;
 use batcher_core::{Core, Doing, Spun, Turn};
 use std::alloc::{AllocError, Global};
 use std::test::Fail;
+use test_rows::all_hold;
 
 /// The text of a job, the number of workers, and a mark for each turn until the job is done, worker by worker and round
 /// by round. A turn without an event has the mark `-`. Any other turn has the mark of what its worker then does: `s`
 /// once it has started a leaf and made no call, `c` while it calls, and `+` for anything else.
-const TURNS: [(&[u8], u32, &str); 2] = [
+const TURNS: &[(&[u8], u32, &str)] = &[
     // Worker 0 waits while worker 1 serves both calls, and has no event once it has arrived.
     (
         b"par { counter add 1 counter add 2 }",
@@ -76,10 +77,18 @@ fn is_run_so(alloc: Global, text: &[u8], workers: u32, marks: &str) -> Result<bo
     Ok(core.report(alloc)?.workers == workers)
 }
 
+/// The place of the first run with other turns, if there is one.
+fn first_run_otherwise(alloc: Global) -> Result<Option<usize>, AllocError> {
+    for (place, row) in TURNS.iter().enumerate() {
+        let (text, workers, marks) = *row;
+        if !is_run_so(alloc, text, workers, marks)? {
+            return Ok(Some(place));
+        }
+    }
+    Ok(None)
+}
+
 #[test]
 fn turns_do_these_events(rt: HostRuntime) -> Result<(), Fail> {
-    for (text, workers, marks) in TURNS {
-        assert!(rt; is_run_so(rt.alloc(), text, workers, marks)?);
-    }
-    Ok(())
+    all_hold(first_run_otherwise(rt.alloc())?)
 }

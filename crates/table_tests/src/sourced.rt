@@ -5,6 +5,7 @@ ghost use Rattle.sp_order.specs.Precedence.{tree_of};
 ghost use Rattle.worker_crew.specs.Workers.{IsReady};
 ghost use Rattle.table_tests.specs.Sourced.{four_shape, four_acts, four_sources};
 
+use crate::runs::report_of;
 use crate::workers::{Made, try_all};
 use batch_history::Report;
 use bt_io::{NoPause, Pause};
@@ -92,63 +93,52 @@ fn run_in_turns<R: Wait>(
     let Ok((first, second)) = in_turns(rt, alloc, &crew, &mut zero, &mut one) else {
         return Ok(None);
     };
-    let mut pass = zero.pass;
-    if !crew.table.root_done(&mut pass) {
-        return Ok(None);
+    match report_of(alloc, crew, zero.pass)? {
+        Some(report) => Ok(Some((report, first, second))),
+        None => Ok(None),
     }
-    let Crew {
-        table,
-        decks: _,
-        board: _,
-        workers: _,
-        pause: _,
-    } = crew;
-    let report = table.close(alloc, pass)?;
-    Ok(Some((report, first, second)))
 }
 
-/// The operations of a report's entries as numbers: each argument, and behind it which operation has it.
-fn ops_in(alloc: Global, report: &Report) -> Result<Vec<(u32, u32)>, AllocError> {
-    let mut ops = Vec::new(alloc);
+/// The operations of the entries.
+const OPS: &[Op] = &[
+    Op::CounterAdd(0, 5),
+    Op::TreeInsert(0, 5),
+    Op::Push(0, 5),
+    Op::Push(0, 1),
+];
+
+/// Whether the entries of a report have these operations, in this order.
+fn has_ops(report: &Report) -> bool {
+    let mut place = 0usize;
     for batch in report.history.batches() {
         for entry in batch.entries() {
-            let op = match entry.op {
-                Op::CounterAdd(_, argument) => (argument, 0),
-                Op::TreeInsert(_, argument) => (argument, 1),
-                Op::Push(_, argument) => (argument, 2),
-                _ => (0, 3),
-            };
-            ops.push(op)?;
+            if OPS.get(place) != Some(&entry.op) {
+                return false;
+            }
+            place = place.saturating_add(1);
         }
     }
-    Ok(ops)
+    place == OPS.len()
 }
 
-/// The leaf of each call, and what was told of its source.
-fn told_in(alloc: Global, made: &[Made]) -> Result<Vec<(u32, Option<u64>)>, AllocError> {
-    let mut told = Vec::new(alloc);
-    for call in made {
-        told.push((call.leaf, call.told))?;
+/// Whether a worker made these calls: the leaf of each, and what was told of its source.
+fn were_told(made: &[Made], wanted: &[(u32, Option<u64>)]) -> bool {
+    for (place, call) in made.iter().enumerate() {
+        if wanted.get(place) != Some(&(call.leaf, call.told)) {
+            return false;
+        }
     }
-    Ok(told)
+    made.len() == wanted.len()
 }
 
 #[test]
 fn calls_take_the_reply_of_their_source(rt: HostRuntime) -> Result<(), Fail> {
-    let alloc = rt.alloc();
-    let ran = run_in_turns(&rt, alloc)?;
+    let ran = run_in_turns(&rt, rt.alloc())?;
     let (report, zero, one) = ran.expect(&rt, "a report");
-    let ops = ops_in(alloc, &report)?;
-    assert_eq!(rt;
-        ops.as_slice(),
-        [(5u32, 0u32), (5, 1), (5, 2), (1, 2)].as_slice()
+    assert!(rt;
+        has_ops(&report)
+            && were_told(&zero, &[(0, None), (2, Some(5)), (3, Some(1))])
+            && were_told(&one, &[(1, Some(5))])
     );
-    let first = told_in(alloc, zero.as_slice())?;
-    let second = told_in(alloc, one.as_slice())?;
-    assert_eq!(rt;
-        first.as_slice(),
-        [(0u32, None), (2, Some(5u64)), (3, Some(1))].as_slice()
-    );
-    assert_eq!(rt; second.as_slice(), [(1u32, Some(5u64))].as_slice());
     Ok(())
 }

@@ -1,11 +1,12 @@
 //! Texts of the job language, each with its job or its fault.
-use job_lang::{JobErr, read_job};
-use job_writer::write_job;
+use crate::texts::{Canonical, LongRow, Row, first_missized, first_mistold, first_uncanonical};
+use job_lang::JobErr;
 use std::alloc::{AllocError, Global};
 use std::test::Fail;
+use test_rows::all_hold;
 
 /// Texts of jobs, at least one for each rule of the grammar, and the canonical texts of these jobs.
-const JOBS: [(&[u8], &str); 21] = [
+const JOBS: &[Row] = &[
     (b"", ""),
     (b"#\xff", ""),
     (b"pfor 4294967295 { }", ""),
@@ -65,7 +66,7 @@ par { seq { work 1 work 2 } seq { work 1 work 2 } } }\n",
 ];
 
 /// Texts that are no jobs, and what is told of their faults.
-const FAULTS: [(&[u8], &str); 20] = [
+const FAULTS: &[Row] = &[
     (b"work 1\n\xff", "line 2: byte not allowed"),
     (b"work 00\n\x00", "line 2: byte not allowed"),
     (
@@ -109,109 +110,72 @@ const FAULTS: [(&[u8], &str); 20] = [
     ),
 ];
 
-/// Long texts: the first part, then the second and the fourth as often as the number says with the third between them,
-/// and the last part. Then what is told of the text.
-const LONG: [(&str, (usize, &str, &str, &str), &str, &str); 8] = [
-    ("", (32, "seq {\n", "work 1\n", "}\n"), "", "1 leaves"),
+/// Texts on both sides of each limit.
+const LONG: &[LongRow] = &[
+    ("", 32, "seq {\n", "work 1\n", "}\n", "", "1 leaves"),
     (
         "",
-        (33, "seq {\n", "work 1\n", "}\n"),
+        33,
+        "seq {\n",
+        "work 1\n",
+        "}\n",
         "",
         "line 33: blocks nested too deep",
     ),
     // Blocks that are closed do not count.
-    ("", (40, "seq { par { } }", "", ""), "", "0 leaves"),
-    ("", (32, "for 4294967295 {", "", "}"), "", "0 leaves"),
-    ("", (20_000, "work 1\n", "", ""), "", "20000 leaves"),
+    ("", 40, "seq { par { } }", "", "", "", "0 leaves"),
+    ("", 32, "for 4294967295 {", "", "}", "", "0 leaves"),
+    ("", 20_000, "work 1\n", "", "", "", "20000 leaves"),
     (
         "",
-        (20_001, "work 1\n", "", ""),
+        20_001,
+        "work 1\n",
+        "",
+        "",
         "",
         "line 20001: too many leaves",
     ),
     (
         "for 2 { pfor 100 { ",
-        (2, "seq {", "for 100 { work @ }", "}"),
+        2,
+        "seq {",
+        "for 100 { work @ }",
+        "}",
         "} }",
         "20000 leaves",
     ),
     // A row of empty blocks is not visited in each copy.
     (
         "pfor 20000 { ",
-        (20_000, "seq{} ", "work 1 ", ""),
+        20_000,
+        "seq{} ",
+        "work 1 ",
+        "",
         "}",
         "20000 leaves",
     ),
 ];
 
-/// The canonical text of a text's job, or what is told of its fault.
-fn canonical(alloc: Global, text: &[u8]) -> Result<Vec<u8>, AllocError> {
-    if text.len() > 1_048_576 {
-        return Ok(Vec::new(alloc));
-    }
-    match read_job(alloc, text) {
-        Ok(job) if job.depth() <= 32 => write_job(alloc, &job),
-        Ok(_) => Ok(Vec::new(alloc)),
-        Err(error) => Ok(format!(in alloc; "{error}")?.into_bytes()),
-    }
-}
-
-/// How many leaves a text's job has, or what is told of its fault.
-fn size(alloc: Global, text: &[u8]) -> Result<String, AllocError> {
-    if text.len() > 1_048_576 {
-        return Ok(String::new(alloc));
-    }
-    match read_job(alloc, text) {
-        Ok(job) => format!(in alloc; "{} leaves", job.acts().len()),
-        Err(error) => format!(in alloc; "{error}"),
-    }
-}
-
-/// The place of the first text with another job or fault, if there is one.
-fn first_misread(alloc: Global, rows: &[(&[u8], &str)]) -> Result<Option<usize>, AllocError> {
-    for (place, row) in rows.iter().enumerate() {
-        let (text, wanted) = *row;
-        if canonical(alloc, text)?.as_slice() != wanted.as_bytes() {
-            return Ok(Some(place));
-        }
-    }
-    Ok(None)
-}
-
 #[test]
 fn texts_are_these_jobs(rt: HostRuntime) -> Result<(), Fail> {
-    assert_eq!(rt; first_misread(rt.alloc(), &JOBS)?, None);
-    Ok(())
+    all_hold(first_uncanonical(rt.alloc(), JOBS)?)
+}
+
+/// The place of the first text with another fault, if there is one. Behind the texts comes the want of memory.
+fn first_misjudged(alloc: Global) -> Result<Option<usize>, AllocError> {
+    let memory = format!(in alloc; "{}", JobErr::Memory)?;
+    if memory.as_str() != "out of memory" {
+        return Ok(Some(FAULTS.len()));
+    }
+    first_mistold::<Canonical>(alloc, FAULTS)
 }
 
 #[test]
 fn texts_have_these_faults(rt: HostRuntime) -> Result<(), Fail> {
-    let memory = format!(in rt.alloc(); "{}", JobErr::Memory)?;
-    assert_eq!(rt;
-        (first_misread(rt.alloc(), &FAULTS)?, memory.as_str()),
-        (None, "out of memory")
-    );
-    Ok(())
-}
-
-/// A text whose front and back stand so often about its middle.
-fn long_text(
-    alloc: Global,
-    first: &str,
-    parts: (usize, &str, &str, &str),
-    last: &str,
-) -> Result<String, AllocError> {
-    let (times, front, middle, back) = parts;
-    let front = front.repeat(alloc, times)?;
-    let back = back.repeat(alloc, times)?;
-    format!(in alloc; "{first}{front}{middle}{back}{last}")
+    all_hold(first_misjudged(rt.alloc())?)
 }
 
 #[test]
 fn limits_are_where_they_are_said(rt: HostRuntime) -> Result<(), Fail> {
-    for (first, parts, last, wanted) in LONG {
-        let text = long_text(rt.alloc(), first, parts, last)?;
-        assert_eq!(rt; size(rt.alloc(), text.as_bytes())?.as_str(), wanted);
-    }
-    Ok(())
+    all_hold(first_missized(rt.alloc(), LONG)?)
 }

@@ -17,3 +17,5 @@ mod plans;
 mod programs;
 #[cfg(test)]
 mod replies;
+#[cfg(test)]
+mod texts;

@@ -1,15 +1,16 @@
 //! Texts with named objects: the numbers that their leaves call and the names of the job, or their fault, and some
 //! canonical texts.
-use crate::replies::canonical;
-use job_lang::read_job;
+use crate::texts::{Row, Telling, first_mistold, first_uncanonical};
 use seq_objects::Act;
+use sp_order::Job;
 use std::alloc::{AllocError, Global};
 use std::fmt::Write;
 use std::test::Fail;
+use test_rows::all_hold;
 
 /// Texts, each with the number of the object of each leaf, from left to right, and behind a stroke the names of the
 /// numbers 1, 2, and so on; or with what is told of its fault. A dash stands for a leaf of work.
-const OBJECTS: [(&[u8], &str); 29] = [
+const OBJECTS: &[Row] = &[
     (
         b"counter:a add 1 counter:b add 2 counter add 4 counter:a add 8",
         "1 2 0 1 / a b",
@@ -60,7 +61,7 @@ const OBJECTS: [(&[u8], &str); 29] = [
 ];
 
 /// Texts with the canonical texts of their jobs, which have the names of the objects that their leaves call.
-const CANONICAL: [(&[u8], &str); 6] = [
+const CANONICAL: &[Row] = &[
     (
         b"counter:a add 1 counter:b add 2 counter add 4 counter:a add 8",
         "seq { seq { counter:a add 1 counter:b add 2 } seq { counter add 4 counter:a add 8 } }\n",
@@ -87,49 +88,37 @@ const CANONICAL: [(&[u8], &str); 6] = [
     ),
 ];
 
-/// The numbers of the objects of a text's job and their names, or what is told of its fault.
-fn objects(alloc: Global, text: &[u8]) -> Result<Vec<u8>, AllocError> {
-    if text.len() > 1_048_576 {
-        return Ok(Vec::new(alloc));
-    }
-    let job = match read_job(alloc, text) {
-        Ok(job) => job,
-        Err(error) => return Ok(format!(in alloc; "{error}")?.into_bytes()),
-    };
-    let mut told = String::new(alloc);
-    for act in job.acts() {
-        match act {
-            Act::Work(_) => told.push_str("- ")?,
-            Act::Call(op) => {
-                let number = op.number();
-                write!(told, "{number} ")?;
+/// The numbers of the objects that the leaves call, and the names of the job.
+struct Objects;
+
+impl Telling for Objects {
+    fn tell(alloc: Global, job: &Job) -> Result<Vec<u8>, AllocError> {
+        let mut told = String::new(alloc);
+        for act in job.acts() {
+            match act {
+                Act::Work(_) => told.push_str("- ")?,
+                Act::Call(op) => {
+                    let number = op.number();
+                    write!(told, "{number} ")?;
+                }
             }
         }
+        told.push_str("/")?;
+        let mut told = told.into_bytes();
+        for name in job.names() {
+            told.push(b' ')?;
+            told.extend_from_slice(name.bytes())?;
+        }
+        Ok(told)
     }
-    told.push_str("/")?;
-    let mut told = told.into_bytes();
-    for name in job.names() {
-        told.push(b' ')?;
-        told.extend_from_slice(name.bytes())?;
-    }
-    Ok(told)
 }
 
 #[test]
 fn leaves_call_these_objects(rt: HostRuntime) -> Result<(), Fail> {
-    for (text, wanted) in OBJECTS {
-        assert_eq!(rt; objects(rt.alloc(), text)?.as_slice(), wanted.as_bytes());
-    }
-    Ok(())
+    all_hold(first_mistold::<Objects>(rt.alloc(), OBJECTS)?)
 }
 
 #[test]
 fn names_have_these_texts(rt: HostRuntime) -> Result<(), Fail> {
-    for (text, wanted) in CANONICAL {
-        let written = canonical(rt.alloc(), text)?;
-        assert_eq!(rt; written.as_slice(), wanted.as_bytes());
-        let again = canonical(rt.alloc(), &written)?;
-        assert_eq!(rt; again.as_slice(), wanted.as_bytes());
-    }
-    Ok(())
+    all_hold(first_uncanonical(rt.alloc(), CANONICAL)?)
 }

@@ -1,12 +1,13 @@
 //! A small job, with its plan written out by hand.
 ghost use Rattle.std.specs.Prelude.{◌≡◌, Some, IfOk};
-ghost use Rattle.sp_order.specs.Precedence.{leaf, seq, par};
+ghost use Rattle.sp_order.specs.Precedence.{leaf, seq, par, leaves};
 
 use seq_objects::Act;
 use sp_order::{Job, Kind, Move, Plan, Shape};
 use std::alloc::{AllocError, Global};
 use std::fmt::Write;
 use std::test::Fail;
+use test_rows::all_hold;
 
 /// The nodes of the small job's plan, each with what it is and what follows it.
 const NODES: &str = "0 series 1 2, the root
@@ -17,7 +18,7 @@ const NODES: &str = "0 series 1 2, the root
 ";
 
 /// Two leaves of the small job, and whether the first is before the second.
-const BEFORE: [(u32, u32, bool); 6] = [
+const BEFORE: &[(u32, u32, bool)] = &[
     (0, 1, true),
     (0, 2, true),
     (0, 0, false),
@@ -55,23 +56,35 @@ fn listed(alloc: Global, plan: &Plan) -> Result<String, AllocError> {
     Ok(lines)
 }
 
+/// Whether the small job is two deep, and its plan has these nodes and its leaves there.
+fn is_numbered(alloc: Global) -> Result<bool, AllocError> {
+    let job = small_job(alloc)?;
+    let plan = Plan::of(alloc, &job)?;
+    let nodes = (plan.node_of(0), plan.node_of(1), plan.node_of(2));
+    Ok(job.depth() == 2 && nodes == (1, 3, 4) && listed(alloc, &plan)?.as_str() == NODES)
+}
+
 #[test]
 fn nodes_are_numbered_in_preorder(rt: HostRuntime) -> Result<(), Fail> {
-    let job = small_job(rt.alloc())?;
-    let plan = Plan::of(rt.alloc(), &job)?;
-    let nodes = (plan.node_of(0), plan.node_of(1), plan.node_of(2));
-    assert_eq!(rt;
-        (job.depth(), nodes, listed(rt.alloc(), &plan)?.as_str()),
-        (2, (1, 3, 4), NODES)
-    );
+    assert!(rt; is_numbered(rt.alloc())?);
     Ok(())
+}
+
+/// The place of the first two leaves with another order, if there are any.
+fn first_misordered(plan: &Plan) -> Option<usize>
+    requires { leaves plan.now ≡ 3 }
+{
+    for (place, row) in BEFORE.iter().enumerate() {
+        let (u, v, expected) = *row;
+        if u >= 3 || v >= 3 || plan.before(u, v) != expected {
+            return Some(place);
+        }
+    }
+    None
 }
 
 #[test]
 fn leaves_are_ordered_by_series(rt: HostRuntime) -> Result<(), Fail> {
     let plan = Plan::of(rt.alloc(), &small_job(rt.alloc())?)?;
-    for (u, v, expected) in BEFORE {
-        assert!(rt; u < 3 && v < 3 && plan.before(u, v) == expected);
-    }
-    Ok(())
+    all_hold(first_misordered(&plan))
 }

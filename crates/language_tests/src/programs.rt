@@ -9,6 +9,7 @@ use decimals::decimal_in;
 use program_io::{End, Line, Program, Stop, read_file, run_program};
 use std::alloc::{AllocError, Global};
 use std::test::Fail;
+use test_rows::all_hold;
 
 /// Why a file gives no number.
 #[derive(Clone, Copy)]
@@ -86,7 +87,9 @@ impl<'a> Program for Greater<'a> {
 }
 
 /// The second file, the call of the shelf that fails, the room of out, how the run ends, and what out took.
-const RUNS: [(&[u8], u64, usize, u8, &[u8]); 8] = [
+type Run = (&'static [u8], u64, usize, u8, &'static [u8]);
+
+const RUNS: &[Run] = &[
     (b"12", 99, 9, 0, b"12\n"),
     (b"1", 99, 9, 0, b"7\n"),
     (b"12", 0, 9, 3, b""),
@@ -117,21 +120,37 @@ fn shelf_of(alloc: Global, second: &[u8], fails: u64) -> Result<MemShelf, AllocE
     Ok(MemShelf::make(files, 9, vec![in alloc; fails]?))
 }
 
-#[test]
-fn a_program_over_two_files_ends_so(rt: HostRuntime) -> Result<(), Fail> {
+/// Whether a run ends so. It tells a number where it has one, and always writes its line to err.
+fn ends_so(alloc: Global, row: &Run) -> Result<bool, AllocError> {
+    let (second, fails, room, number, taken) = *row;
     let program = Greater {
         first: "a",
         second: "b",
     };
-    for (second, fails, room, number, taken) in RUNS {
-        let mut shelf = shelf_of(rt.alloc(), second, fails)?;
-        let mut out = MemSink::make(rt.alloc(), room, 1, Vec::new(rt.alloc()))?;
-        let mut err = MemSink::make(rt.alloc(), 99, 99, Vec::new(rt.alloc()))?;
-        let ran = run_program(rt.alloc(), &program, &mut shelf, &mut out, &mut err);
-        assert_eq!(rt; number_of(ran.end), number);
-        assert_eq!(rt; ran.told.is_some(), number == 0 || number == 6);
-        assert_eq!(rt; out.bytes(), taken);
-        assert_eq!(rt; err.bytes(), b"greater: ended\n".as_slice());
+    let mut shelf = shelf_of(alloc, second, fails)?;
+    let mut out = MemSink::make(alloc, room, 1, Vec::new(alloc))?;
+    let mut err = MemSink::make(alloc, 99, 99, Vec::new(alloc))?;
+    let ran = run_program(alloc, &program, &mut shelf, &mut out, &mut err);
+    let tells = number == 0 || number == 6;
+    Ok(
+        number_of(ran.end) == number
+            && ran.told.is_some() == tells
+            && out.bytes() == taken
+            && err.bytes() == b"greater: ended\n".as_slice(),
+    )
+}
+
+/// The place of the first run that ends otherwise, if there is one.
+fn first_ending_otherwise(alloc: Global) -> Result<Option<usize>, AllocError> {
+    for (place, row) in RUNS.iter().enumerate() {
+        if !ends_so(alloc, row)? {
+            return Ok(Some(place));
+        }
     }
-    Ok(())
+    Ok(None)
+}
+
+#[test]
+fn a_program_over_two_files_ends_so(rt: HostRuntime) -> Result<(), Fail> {
+    all_hold(first_ending_otherwise(rt.alloc())?)
 }

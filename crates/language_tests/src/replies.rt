@@ -1,13 +1,14 @@
 //! Texts with replies as arguments: the sources of their leaves, or their fault, and some canonical texts.
-use job_lang::read_job;
-use job_writer::write_job;
+use crate::texts::{LongRow, Row, Telling, first_missized, first_mistold, first_uncanonical};
+use sp_order::Job;
 use std::alloc::{AllocError, Global};
 use std::fmt::Write;
 use std::test::Fail;
+use test_rows::all_hold;
 
 /// Texts, each with the source of each leaf, from left to right, or with what is told of its fault. A dash stands for a
 /// leaf that has no source.
-const SOURCES: [(&[u8], &str); 49] = [
+const SOURCES: &[Row] = &[
     (b"let a = counter add 5 tree insert a stack push a", "- 0 0"),
     (
         b"par { let a = counter add 1 tree insert a }",
@@ -147,7 +148,7 @@ const SOURCES: [(&[u8], &str); 49] = [
 ];
 
 /// Texts with the canonical texts of their jobs. A name that no leaf uses, or that a later one hides, is not written.
-const CANONICAL: [(&[u8], &str); 5] = [
+const CANONICAL: &[Row] = &[
     (
         b"let a = counter add 5 tree insert a stack push a",
         "seq { seq { let v0 = counter add 5 tree insert v0 } stack push v0 }\n",
@@ -170,72 +171,59 @@ const CANONICAL: [(&[u8], &str); 5] = [
     ),
 ];
 
-/// The sources of the leaves of a text's job, or what is told of its fault.
-fn sources(alloc: Global, text: &[u8]) -> Result<String, AllocError> {
-    if text.len() > 1_048_576 {
-        return Ok(String::new(alloc));
-    }
-    let job = match read_job(alloc, text) {
-        Ok(job) => job,
-        Err(error) => return format!(in alloc; "{error}"),
-    };
-    let mut told = String::new(alloc);
-    for leaf in 0..job.acts().len() as u32 {
-        if leaf > 0 {
-            told.push_str(" ")?;
-        }
-        match job.source(leaf) {
-            Some(source) => write!(told, "{source}")?,
-            None => told.push_str("-")?,
-        }
-    }
-    Ok(told)
-}
+/// The source of each leaf.
+struct Sources;
 
-/// The canonical text of a text's job, or what is told of its fault.
-pub(crate) fn canonical(alloc: Global, text: &[u8]) -> Result<Vec<u8>, AllocError> {
-    if text.len() > 1_048_576 {
-        return Ok(Vec::new(alloc));
-    }
-    match read_job(alloc, text) {
-        Ok(job) if job.depth() <= 32 => write_job(alloc, &job),
-        Ok(_) => Ok(Vec::new(alloc)),
-        Err(error) => Ok(format!(in alloc; "{error}")?.into_bytes()),
+impl Telling for Sources {
+    fn tell(alloc: Global, job: &Job) -> Result<Vec<u8>, AllocError> {
+        let mut told = String::new(alloc);
+        for leaf in 0..job.acts().len() as u32 {
+            if leaf > 0 {
+                told.push_str(" ")?;
+            }
+            match job.source(leaf) {
+                Some(source) => write!(told, "{source}")?,
+                None => told.push_str("-")?,
+            }
+        }
+        Ok(told.into_bytes())
     }
 }
 
 #[test]
 fn leaves_have_these_sources(rt: HostRuntime) -> Result<(), Fail> {
-    for (text, wanted) in SOURCES {
-        assert_eq!(rt; sources(rt.alloc(), text)?.as_str(), wanted);
-    }
-    Ok(())
+    all_hold(first_mistold::<Sources>(rt.alloc(), SOURCES)?)
 }
 
 #[test]
 fn replies_have_these_texts(rt: HostRuntime) -> Result<(), Fail> {
-    for (text, wanted) in CANONICAL {
-        let written = canonical(rt.alloc(), text)?;
-        assert_eq!(rt; written.as_slice(), wanted.as_bytes());
-        let again = canonical(rt.alloc(), &written)?;
-        assert_eq!(rt; again.as_slice(), wanted.as_bytes());
-    }
-    Ok(())
+    all_hold(first_uncanonical(rt.alloc(), CANONICAL)?)
 }
 
-/// 58,000 lets of one name, which end in a use of another: each is read once, and the use looks at none of them.
+/// 58,000 lets of one name, which end in a use of another, and in a use of this one.
+const LETS: &[LongRow] = &[
+    (
+        "",
+        58_000,
+        "let a = stack pop\n",
+        "stack push b",
+        "",
+        "",
+        "line 58001: name not known here",
+    ),
+    (
+        "",
+        58_000,
+        "let a = stack pop\n",
+        "stack push a",
+        "",
+        "",
+        "line 20001: too many leaves",
+    ),
+];
+
+/// Each let is read once, and the use looks at none of them.
 #[test]
 fn many_lets_are_read(rt: HostRuntime) -> Result<(), Fail> {
-    let lets = "let a = stack pop\n".repeat(rt.alloc(), 58_000)?;
-    let text = format!(in rt.alloc(); "{lets}stack push b")?;
-    assert_eq!(rt;
-        sources(rt.alloc(), text.as_bytes())?.as_str(),
-        "line 58001: name not known here"
-    );
-    let text = format!(in rt.alloc(); "{lets}stack push a")?;
-    assert_eq!(rt;
-        sources(rt.alloc(), text.as_bytes())?.as_str(),
-        "line 20001: too many leaves"
-    );
-    Ok(())
+    all_hold(first_missized(rt.alloc(), LETS)?)
 }

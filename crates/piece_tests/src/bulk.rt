@@ -1,11 +1,13 @@
 //! The set whose calls carry many keys, in one thread and in several.
 
+use crate::numbers::next_number;
 use crate::script::{Script, Served, first_wrong};
 use bulk_calls::{BulkCall, BulkKind, BulkOp, BulkSet, Replies, in_batch_order};
 use std::alloc::{AllocError, Global};
 use std::collections::BTreeSet;
 use std::test::Fail;
 use std::thread::Threads;
+use test_rows::all_hold;
 
 const INSERT: BulkKind = BulkKind::Insert;
 
@@ -17,7 +19,7 @@ const FIND: BulkKind = BulkKind::Find;
 type Row = (&'static [(BulkKind, &'static [u32])], &'static str);
 
 /// Finds before inserts and removes, whatever their workers; one key in several calls, and several times in one.
-const FEW: [Row; 9] = [
+const FEW: &[Row] = &[
     (
         &[(INSERT, &[5, 7, 5]), (REMOVE, &[7, 9]), (FIND, &[5, 7])],
         "no no; yes yes no; yes no",
@@ -56,7 +58,7 @@ const FEW: [Row; 9] = [
 ];
 
 /// Keys of all ranges in one call, out of order; then each range has keys of several calls.
-const WIDE: [Row; 3] = [
+const WIDE: &[Row] = &[
     (
         &[(
             INSERT,
@@ -151,35 +153,50 @@ fn operations_of(alloc: Global, calls: &[(BulkKind, &[u32])]) -> Result<Vec<Bulk
     Ok(operations)
 }
 
-#[test]
-fn threads_make_no_difference(rt: HostRuntime) -> Result<(), Fail> {
-    for rows in [FEW.as_slice(), WIDE.as_slice()] {
-        let mut script = Script::new(rt.alloc());
-        for (calls, replies) in rows {
-            script.add(operations_of(rt.alloc(), calls)?, replies)?;
-        }
-        assert_eq!(rt; first_wrong::<BulkSet, _>(&rt, rt.alloc(), &script)?, None);
+/// The script of these rows.
+fn script_of(alloc: Global, rows: &[Row]) -> Result<Script<BulkOp>, AllocError> {
+    let mut script = Script::new(alloc);
+    for (calls, replies) in rows {
+        script.add(operations_of(alloc, calls)?, replies)?;
     }
-    Ok(())
+    Ok(script)
 }
 
-/// The next number of a pseudorandom sequence, the same in each run.
-fn next_number(state: &mut u64) -> u32 {
-    *state = state
-        .wrapping_mul(6364136223846793005)
-        .wrapping_add(1442695040888963407);
-    (*state >> 33) as u32
+/// The place of the first of these lists of rows whose script gets other replies, if there is one.
+fn first_wrong_of<R: Threads + Sync>(
+    rt: &R,
+    alloc: Global,
+    lists: &[&[Row]],
+) -> Result<Option<usize>, AllocError> {
+    for (place, rows) in lists.iter().enumerate() {
+        let script = script_of(alloc, rows)?;
+        if first_wrong::<BulkSet, R>(rt, alloc, &script)?.is_some() {
+            return Ok(Some(place));
+        }
+    }
+    Ok(None)
+}
+
+#[test]
+fn threads_make_no_difference(rt: HostRuntime) -> Result<(), Fail> {
+    let lists = [FEW, WIDE];
+    all_hold(first_wrong_of(&rt, rt.alloc(), &lists)?)
+}
+
+/// The next number of 31 bits.
+fn next_bits(state: &mut u64) -> u32 {
+    (next_number(state) >> 33) as u32
 }
 
 /// An operation with up to 64 keys below 3,000.
 fn random_operation(state: &mut u64) -> BulkOp {
-    let mut operation = BulkOp::new(match next_number(state) % 8 {
+    let mut operation = BulkOp::new(match next_bits(state) % 8 {
         0 | 1 => FIND,
         2..=4 => REMOVE,
         _ => INSERT,
     });
-    for _ in 0..next_number(state) % 64 + 1 {
-        push_key(&mut operation, next_number(state) % 3000);
+    for _ in 0..next_bits(state) % 64 + 1 {
+        push_key(&mut operation, next_bits(state) % 3000);
     }
     operation
 }
@@ -187,7 +204,7 @@ fn random_operation(state: &mut u64) -> BulkOp {
 /// Up to 32 operations.
 fn random_operations(alloc: Global, state: &mut u64) -> Result<Vec<BulkOp>, AllocError> {
     let mut operations = Vec::new(alloc);
-    for _ in 0..next_number(state) % 32 + 1 {
+    for _ in 0..next_bits(state) % 32 + 1 {
         operations.push(random_operation(state))?;
     }
     Ok(operations)
@@ -246,8 +263,7 @@ fn all_random(alloc: Global) -> Result<Script<BulkOp>, AllocError> {
 #[test]
 fn random_batches_are_served_as_a_sorted_set_serves_them(rt: HostRuntime) -> Result<(), Fail> {
     let script = all_random(rt.alloc())?;
-    assert_eq!(rt; first_wrong::<BulkSet, _>(&rt, rt.alloc(), &script)?, None);
-    Ok(())
+    all_hold(first_wrong::<BulkSet, _>(&rt, rt.alloc(), &script)?)
 }
 
 /// 32 operations of one kind: that of worker w has the 64 keys from 64 w on.
@@ -273,7 +289,7 @@ fn all_answers(alloc: Global, answer: bool) -> Result<String, AllocError> {
 }
 
 /// The kind of each batch of 2,048 keys, and what every key is answered.
-const FULL: [(BulkKind, bool); 6] = [
+const FULL: &[(BulkKind, bool)] = &[
     (FIND, false),
     (INSERT, true),
     (INSERT, false),
@@ -282,15 +298,26 @@ const FULL: [(BulkKind, bool); 6] = [
     (FIND, false),
 ];
 
+/// These batches.
+fn all_full(alloc: Global) -> Result<Script<BulkOp>, AllocError> {
+    let mut script = Script::new(alloc);
+    for row in FULL {
+        let (kind, answer) = *row;
+        let words = all_answers(alloc, answer)?;
+        script.add(all_keys(alloc, kind)?, words.as_str())?;
+    }
+    Ok(script)
+}
+
 #[test]
 fn a_batch_has_room_for_2048_keys(rt: HostRuntime) -> Result<(), Fail> {
-    let mut script = Script::new(rt.alloc());
-    for (kind, answer) in FULL {
-        let words = all_answers(rt.alloc(), answer)?;
-        script.add(all_keys(rt.alloc(), kind)?, words.as_str())?;
-    }
-    assert_eq!(rt; first_wrong::<BulkSet, _>(&rt, rt.alloc(), &script)?, None);
-    Ok(())
+    let script = all_full(rt.alloc())?;
+    all_hold(first_wrong::<BulkSet, _>(&rt, rt.alloc(), &script)?)
+}
+
+/// Whether there is one reply, with these answers.
+fn is_one_with(replies: &[Replies], answers: &[bool]) -> bool {
+    replies.len() == 1 && replies[0].answers() == answers
 }
 
 #[test]
@@ -306,8 +333,6 @@ fn a_literal_call_has_its_keys_in_front(rt: HostRuntime) -> Result<(), Fail> {
     }];
     let set = BulkSet::new(rt.alloc())?;
     let (_set, replies) = set.batch(&rt, rt.alloc(), &calls)?;
-    let mut words = String::new(rt.alloc());
-    push_replies(&mut words, &replies)?;
-    assert_eq!(rt; words.as_str(), "yes no");
+    assert!(rt; is_one_with(&replies, &[true, false]));
     Ok(())
 }

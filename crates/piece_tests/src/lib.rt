@@ -13,6 +13,8 @@ mod dealing;
 #[cfg(test)]
 mod map;
 #[cfg(test)]
+mod numbers;
+#[cfg(test)]
 mod queue;
 #[cfg(test)]
 mod ranks;

@@ -1,13 +1,15 @@
 //! The map, in one thread and in several, and beside a sorted list.
 ghost use Rattle.std.specs.Prelude.{◌≤◌, length};
 
-use crate::script::{Script, Served, first_wrong};
+use crate::numbers::next_number;
+use crate::script::{Script, Served, first_wrong, first_wrong_of};
 use crate::words::push_words;
 use batched_map::{MapOp, RankBook, in_batch_order};
 use seq_objects::Reply;
 use std::alloc::{AllocError, Global};
 use std::test::Fail;
 use std::thread::Threads;
+use test_rows::all_hold;
 
 impl Served for RankBook {
     type Operation = MapOp;
@@ -42,7 +44,7 @@ impl Served for RankBook {
 type Row = (&'static [MapOp], &'static str);
 
 /// Batches that come one after another: a map that is filled, asked and changed. Queries come before updates.
-const FEW: [Row; 3] = [
+const FEW: &[Row] = &[
     (
         &[MapOp::Put(10, 1), MapOp::Put(30, 3), MapOp::Put(20, 2)],
         "empty empty empty",
@@ -64,7 +66,7 @@ const FEW: [Row; 3] = [
 ];
 
 /// Batches without keys, on an empty map and on one with a key.
-const KEYLESS: [Row; 4] = [
+const KEYLESS: &[Row] = &[
     (&[], ""),
     (&[MapOp::Nth(0)], "empty"),
     (&[MapOp::Put(7, 70)], "empty"),
@@ -75,7 +77,7 @@ const KEYLESS: [Row; 4] = [
 ];
 
 /// Updates of one key, which are served by worker, and of several, by key.
-const ORDERED: [Row; 3] = [
+const ORDERED: &[Row] = &[
     (
         &[
             MapOp::Put(5, 1),
@@ -99,7 +101,7 @@ const ORDERED: [Row; 3] = [
 ];
 
 /// Questions and a removal of keys that are not there, and the least and the greatest key.
-const EDGES: [Row; 3] = [
+const EDGES: &[Row] = &[
     (
         &[MapOp::Del(9), MapOp::Rank(9), MapOp::Nth(0)],
         "0 empty empty",
@@ -124,7 +126,7 @@ const EDGES: [Row; 3] = [
 ];
 
 /// A batch of 18 keys has 9 ranges; its indices fall in the last, in the first, in one between, and past all.
-const RANGES: [Row; 3] = [
+const RANGES: &[Row] = &[
     (
         &[
             MapOp::Put(0, 0),
@@ -187,17 +189,8 @@ empty empty empty empty empty empty empty empty empty empty",
 
 #[test]
 fn threads_make_no_difference(rt: HostRuntime) -> Result<(), Fail> {
-    for rows in [
-        FEW.as_slice(),
-        KEYLESS.as_slice(),
-        ORDERED.as_slice(),
-        EDGES.as_slice(),
-        RANGES.as_slice(),
-    ] {
-        let script = Script::of(rt.alloc(), rows)?;
-        assert_eq!(rt; first_wrong::<RankBook, _>(&rt, rt.alloc(), &script)?, None);
-    }
-    Ok(())
+    let lists = [FEW, KEYLESS, ORDERED, EDGES, RANGES];
+    all_hold(first_wrong_of::<RankBook, _>(&rt, rt.alloc(), &lists)?)
 }
 
 /// How many pairs of an ascending list have a lower key.
@@ -240,13 +233,6 @@ fn serve_sorted(pairs: &mut Vec<(u32, u32)>, operation: MapOp) -> Result<Reply, 
     Ok(old)
 }
 
-/// The next number of a pseudorandom sequence.
-fn next_random(state: u64) -> u64 {
-    state
-        .wrapping_mul(6364136223846793005)
-        .wrapping_add(1442695040888963407)
-}
-
 /// An operation on one of 200 keys, or on one of the edges.
 fn operation_of(random: u64) -> MapOp {
     let number = (random >> 33) as u32;
@@ -268,8 +254,7 @@ fn operation_of(random: u64) -> MapOp {
 fn random_operations(alloc: Global, state: &mut u64) -> Result<Vec<MapOp>, AllocError> {
     let mut operations = Vec::new(alloc);
     for _ in 0..32u32 {
-        *state = next_random(*state);
-        operations.push(operation_of(*state))?;
+        operations.push(operation_of(next_number(state)))?;
     }
     Ok(operations)
 }
@@ -308,6 +293,5 @@ fn all_random(alloc: Global) -> Result<Script<MapOp>, AllocError> {
 #[test]
 fn random_batches_are_those_of_a_sorted_list(rt: HostRuntime) -> Result<(), Fail> {
     let script = all_random(rt.alloc())?;
-    assert_eq!(rt; first_wrong::<RankBook, _>(&rt, rt.alloc(), &script)?, None);
-    Ok(())
+    all_hold(first_wrong::<RankBook, _>(&rt, rt.alloc(), &script)?)
 }

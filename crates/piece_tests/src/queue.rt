@@ -1,12 +1,13 @@
 //! The queue, in one thread and in several.
 
-use crate::script::{Script, Served, first_wrong};
+use crate::script::{Script, Served, first_wrong, first_wrong_of};
 use crate::words::{push_words, words_of};
 use batched_queue::{FifoQueue, in_batch_order};
 use seq_objects::Reply;
 use std::alloc::{AllocError, Global};
 use std::test::Fail;
 use std::thread::Threads;
+use test_rows::all_hold;
 
 impl Served for FifoQueue {
     type Operation = Option<u32>;
@@ -44,7 +45,7 @@ type Row = (&'static [Option<u32>], &'static str);
 const GET: Option<u32> = None;
 
 /// Puts before gets, whatever their workers; gets of an empty queue; the greatest number and the least.
-const FEW: [Row; 6] = [
+const FEW: &[Row] = &[
     (&[Some(1), GET, Some(2)], "ok ok 1"),
     (&[GET, GET], "2 empty"),
     (&[], ""),
@@ -54,7 +55,7 @@ const FEW: [Row; 6] = [
 ];
 
 /// A queue that runs empty, and then items in all stripes.
-const ROUND: [Row; 3] = [
+const ROUND: &[Row] = &[
     (&[Some(100), GET, GET], "ok 100 empty"),
     (
         &[
@@ -88,7 +89,7 @@ const ROUND: [Row; 3] = [
 ];
 
 /// A batch of 32 that touches each stripe, and one that takes what it leaves.
-const FULL: [Row; 2] = [
+const FULL: &[Row] = &[
     (
         &[
             GET,
@@ -131,14 +132,8 @@ const FULL: [Row; 2] = [
 
 #[test]
 fn threads_make_no_difference(rt: HostRuntime) -> Result<(), Fail> {
-    for rows in [FEW.as_slice(), ROUND.as_slice(), FULL.as_slice()] {
-        let script = Script::of(rt.alloc(), rows)?;
-        assert_eq!(rt;
-            first_wrong::<FifoQueue, _>(&rt, rt.alloc(), &script)?,
-            None
-        );
-    }
-    Ok(())
+    let lists = [FEW, ROUND, FULL];
+    all_hold(first_wrong_of::<FifoQueue, _>(&rt, rt.alloc(), &lists)?)
 }
 
 /// Appends a batch that makes one operation 32 times, each with the same reply.
@@ -169,9 +164,5 @@ fn all_round(alloc: Global) -> Result<Script<Option<u32>>, AllocError> {
 #[test]
 fn a_queue_grows_and_gives_its_memory_back(rt: HostRuntime) -> Result<(), Fail> {
     let script = all_round(rt.alloc())?;
-    assert_eq!(rt;
-        first_wrong::<FifoQueue, _>(&rt, rt.alloc(), &script)?,
-        None
-    );
-    Ok(())
+    all_hold(first_wrong::<FifoQueue, _>(&rt, rt.alloc(), &script)?)
 }

@@ -8,6 +8,7 @@ use std::alloc::{AllocError, Global};
 use std::collections::BTreeMap;
 use std::fmt::Write;
 use std::test::Fail;
+use test_rows::all_hold;
 
 /// A call of a map.
 enum Step {
@@ -83,8 +84,13 @@ fn words_of(alloc: Global, rows: &[(&[Step], u32)]) -> Result<String, AllocError
     Ok(words)
 }
 
+/// Whether these are the answers.
+fn are_answers(alloc: Global, rows: &[(&[Step], u32)], wanted: &str) -> Result<bool, AllocError> {
+    Ok(words_of(alloc, rows)?.as_str() == wanted)
+}
+
 /// A map of four keys, which is asked for keys that are there and not there.
-const FOUR: [(&[Step], u32); 3] = [
+const FOUR: &[(&[Step], u32)] = &[
     (&[], 20),
     (
         &[
@@ -105,20 +111,20 @@ const FOUR: [(&[Step], u32); 3] = [
     (&[Step::Del(20), Step::Del(20)], 0),
 ];
 
-#[test]
-fn a_map_is_cut_and_joined(rt: HostRuntime) -> Result<(), Fail> {
-    assert_eq!(rt;
-        words_of(rt.alloc(), &FOUR)?.as_str(),
-        "len 0 depth 0; |
+/// Its answers.
+const FOUR_ANSWERS: &str = "len 0 depth 0; |
 empty empty empty empty 2 9 empty 1 2 20 empty len 4 depth 0; 10 | 20 30 40
 9 empty len 3 depth 0; | 10 30 40
-"
-    );
+";
+
+#[test]
+fn a_map_is_cut_and_joined(rt: HostRuntime) -> Result<(), Fail> {
+    assert!(rt; are_answers(rt.alloc(), FOUR, FOUR_ANSWERS)?);
     Ok(())
 }
 
 /// A map of the least key and the greatest.
-const EDGES: [(&[Step], u32); 3] = [
+const EDGES: &[(&[Step], u32)] = &[
     (
         &[
             Step::Rank(4294967295),
@@ -140,15 +146,16 @@ const EDGES: [(&[Step], u32); 3] = [
     (&[Step::Del(4294967295), Step::Del(0)], 0),
 ];
 
-#[test]
-fn the_least_key_and_the_greatest(rt: HostRuntime) -> Result<(), Fail> {
-    assert_eq!(rt;
-        words_of(rt.alloc(), &EDGES)?.as_str(),
-        "0 empty empty empty 0 1 0 4294967295 empty empty 4294967295 0 len 2 depth 0; | 0 4294967295
+/// Its answers.
+const EDGES_ANSWERS: &str =
+    "0 empty empty empty 0 1 0 4294967295 empty empty 4294967295 0 len 2 depth 0; | 0 4294967295
 len 2 depth 0; 0 | 4294967295
 0 4294967295 len 0 depth 0; |
-"
-    );
+";
+
+#[test]
+fn the_least_key_and_the_greatest(rt: HostRuntime) -> Result<(), Fail> {
+    assert!(rt; are_answers(rt.alloc(), EDGES, EDGES_ANSWERS)?);
     Ok(())
 }
 
@@ -183,16 +190,18 @@ fn remove_all(map: &mut RankTree) -> Option<u32> {
     None
 }
 
-#[test]
-fn a_map_of_many_keys_is_not_deep(rt: HostRuntime) -> Result<(), Fail> {
-    let mut map = RankTree::new(rt.alloc());
+/// Whether a map of many keys has each at its place, gives each back, and is from 5 to 14 deep before.
+fn is_not_deep(alloc: Global) -> Result<bool, AllocError> {
+    let mut map = RankTree::new(alloc);
     let there = put_all(&mut map)?;
     let depth = map.depth();
-    let wrong = (there, misplaced(&map), remove_all(&mut map));
-    assert_eq!(rt;
-        (wrong, 5 <= depth && depth <= 14, map.len(), map.depth()),
-        ((None, None, None), true, 0, 0)
-    );
+    let wrong = there.or(misplaced(&map)).or(remove_all(&mut map));
+    Ok(wrong.is_none() && 5 <= depth && depth <= 14 && map.len() == 0 && map.depth() == 0)
+}
+
+#[test]
+fn a_map_of_many_keys_is_not_deep(rt: HostRuntime) -> Result<(), Fail> {
+    assert!(rt; is_not_deep(rt.alloc())?);
     Ok(())
 }
 
@@ -255,11 +264,11 @@ fn cut_apart(tree: RankTree, key: u32) -> Result<(RankTree, bool), AllocError> {
 
 /// The first hundred calls that the ordered map of std answers otherwise, or after which a cut or a key is wrong, if
 /// there are any: many more puts than removals, and then more removals.
-fn first_unlike(alloc: Global) -> Result<Option<u32>, AllocError> {
+fn first_unlike(alloc: Global) -> Result<Option<usize>, AllocError> {
     let mut tree = RankTree::new(alloc);
     let mut map = BTreeMap::new(alloc);
     let mut state = 1;
-    for hundred in 0..90u32 {
+    for hundred in 0..90usize {
         let puts = if hundred < 50 { 1500 } else { 500 };
         let alike = are_alike(&mut tree, &mut map, &mut state, puts)?;
         let (next, apart) = cut_apart(tree, next_number(&mut state))?;
@@ -273,6 +282,5 @@ fn first_unlike(alloc: Global) -> Result<Option<u32>, AllocError> {
 
 #[test]
 fn a_map_is_that_of_std(rt: HostRuntime) -> Result<(), Fail> {
-    assert_eq!(rt; first_unlike(rt.alloc())?, None);
-    Ok(())
+    all_hold(first_unlike(rt.alloc())?)
 }

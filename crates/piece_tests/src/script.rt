@@ -76,15 +76,36 @@ fn replies<S: Served, R: Threads + Sync>(
     Ok(words)
 }
 
-/// The first number of threads in which the replies are not the wanted ones, if there is one.
+/// The numbers of threads in which a script is served, where 0 leaves the choice to the structure.
+const THREADS: [usize; 6] = [0, 1, 2, 3, 16, 100];
+
+/// The place of the first of these numbers in which the replies are not the wanted ones, if there is one.
 pub(crate) fn first_wrong<S: Served, R: Threads + Sync>(
     rt: &R,
     alloc: Global,
     script: &Script<S::Operation>,
 ) -> Result<Option<usize>, AllocError> {
-    for threads in [0, 1, 2, 3, 16, 100] {
-        if replies::<S, R>(rt, alloc, threads, &script.batches)? != script.wanted {
-            return Ok(Some(threads));
+    for (place, threads) in THREADS.iter().enumerate() {
+        if replies::<S, R>(rt, alloc, *threads, &script.batches)? != script.wanted {
+            return Ok(Some(place));
+        }
+    }
+    Ok(None)
+}
+
+/// The place of the first of these lists of rows whose script gets other replies, if there is one.
+pub(crate) fn first_wrong_of<S: Served, R: Threads + Sync>(
+    rt: &R,
+    alloc: Global,
+    lists: &[&[(&[S::Operation], &str)]],
+) -> Result<Option<usize>, AllocError>
+where
+    S::Operation: Copy,
+{
+    for (place, rows) in lists.iter().enumerate() {
+        let script = Script::of(alloc, rows)?;
+        if first_wrong::<S, R>(rt, alloc, &script)?.is_some() {
+            return Ok(Some(place));
         }
     }
     Ok(None)

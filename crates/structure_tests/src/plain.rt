@@ -7,9 +7,10 @@ use seq_objects::{Call, Op, Plain, Reply, comes_first, spin, value};
 use std::alloc::{AllocError, Global};
 use std::fmt::Write;
 use std::test::Fail;
+use test_rows::all_hold;
 
 /// One row an operation, with its reply after the rows before it.
-const CALLS: [(Op, &str); 11] = [
+const CALLS: &[(Op, &str)] = &[
     (Op::CounterAdd(0, 4294967295), "4294967295"),
     (Op::CounterAdd(0, 2), "4294967297"),
     (Op::Push(0, 7), "ok"),
@@ -24,7 +25,7 @@ const CALLS: [(Op, &str); 11] = [
 ];
 
 /// Two objects of each kind, in turn.
-const TWO_OF_EACH: [(Op, &str); 20] = [
+const TWO_OF_EACH: &[(Op, &str)] = &[
     (Op::CounterAdd(1, 5), "5"),
     (Op::CounterAdd(4294967295, 7), "7"),
     (Op::CounterAdd(0, 1), "1"),
@@ -48,7 +49,7 @@ const TWO_OF_EACH: [(Op, &str); 20] = [
 ];
 
 /// Operations on objects that no operation has called before, and on such an object after an addition of 0.
-const UNCALLED: [(Op, &str); 8] = [
+const UNCALLED: &[(Op, &str)] = &[
     (Op::Pop(9), "empty"),
     (Op::TreeFind(9, 1), "no"),
     (Op::TreeNext(9, 0), "empty"),
@@ -88,23 +89,20 @@ fn first_wrong(alloc: Global, calls: &[(Op, &str)]) -> Result<Option<usize>, All
 
 #[test]
 fn objects_reply_as_one_thread_has_them(rt: HostRuntime) -> Result<(), Fail> {
-    assert_eq!(rt; first_wrong(rt.alloc(), &CALLS)?, None);
-    Ok(())
+    all_hold(first_wrong(rt.alloc(), CALLS)?)
 }
 
 #[test]
 fn objects_of_one_kind_are_apart(rt: HostRuntime) -> Result<(), Fail> {
-    assert_eq!(rt; first_wrong(rt.alloc(), &TWO_OF_EACH)?, None);
-    Ok(())
+    all_hold(first_wrong(rt.alloc(), TWO_OF_EACH)?)
 }
 
 #[test]
 fn uncalled_objects_are_as_at_the_opening(rt: HostRuntime) -> Result<(), Fail> {
-    assert_eq!(rt; first_wrong(rt.alloc(), &UNCALLED)?, None);
-    Ok(())
+    all_hold(first_wrong(rt.alloc(), UNCALLED)?)
 }
 
-const REPLIES: [Reply; 5] = [
+const REPLIES: &[Reply] = &[
     Reply::Number(4294967296),
     Reply::Unit,
     Reply::Empty,
@@ -116,7 +114,7 @@ const REPLIES: [Reply; 5] = [
 fn lines(alloc: Global) -> Result<String, AllocError> {
     let mut lines = String::new(alloc);
     for reply in REPLIES {
-        writeln!(lines, "{reply}: {}", value(reply))?;
+        writeln!(lines, "{reply}: {}", value(*reply))?;
     }
     Ok(lines)
 }
@@ -130,7 +128,7 @@ no: 0
 
 #[test]
 fn replies_are_written_in_words(rt: HostRuntime) -> Result<(), Fail> {
-    assert_eq!(rt; lines(rt.alloc())?.as_str(), LINES);
+    assert!(rt; lines(rt.alloc())?.as_str() == LINES);
     Ok(())
 }
 
@@ -178,13 +176,10 @@ fn first_misplaced() -> Option<(usize, usize)> {
 
 #[test]
 fn calls_of_one_batch_have_an_order(rt: HostRuntime) {
-    assert_eq!(rt; first_misplaced(), None);
+    assert!(rt; first_misplaced().is_none());
 }
 
 #[test]
 fn work_has_a_value(rt: HostRuntime) {
-    assert_eq!(rt;
-        (spin(0), spin(1), spin(3), spin(20)),
-        (0, 6, 406, 1395749216)
-    );
+    assert!(rt; (spin(0), spin(1), spin(3), spin(20)) == (0, 6, 406, 1395749216));
 }

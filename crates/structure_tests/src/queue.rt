@@ -3,10 +3,12 @@
 use crate::batch::{Row, first_wrong};
 use batched_pq::{Heap, Queue};
 use seq_objects::Op;
+use std::alloc::{AllocError, Global};
 use std::test::Fail;
+use test_rows::all_hold;
 
 /// Inserts before takes, equal items in several shards, and takes of an empty queue.
-const ROWS: [Row; 5] = [
+const ROWS: &[Row] = &[
     (
         &[Op::PqTake(0), Op::PqTake(0), Op::PqTake(0)],
         "empty empty empty",
@@ -41,7 +43,14 @@ const ROWS: [Row; 5] = [
 #[test]
 fn the_least_items_are_taken(rt: HostRuntime) -> Result<(), Fail> {
     let queue = Queue::new(rt.alloc())?;
-    assert_eq!(rt; first_wrong(rt.alloc(), queue, Op::PqTake(0), &ROWS)?, None);
+    all_hold(first_wrong(rt.alloc(), queue, Op::PqTake(0), ROWS)?)
+}
+
+/// Puts the items 20,000, 19,999, .. 1 into a heap.
+fn fill(alloc: Global, heap: &mut Heap) -> Result<(), AllocError> {
+    for item in 0..20000 {
+        heap.push(alloc, 20000 - item)?;
+    }
     Ok(())
 }
 
@@ -49,9 +58,7 @@ fn the_least_items_are_taken(rt: HostRuntime) -> Result<(), Fail> {
 #[test]
 fn a_long_heap_is_taken_from_and_dropped(rt: HostRuntime) -> Result<(), Fail> {
     let mut heap = Heap::new(rt.alloc());
-    for item in 0..20000 {
-        heap.push(rt.alloc(), 20000 - item)?;
-    }
-    assert_eq!(rt; (heap.pop(), heap.pop()), (Some(1), Some(2)));
+    fill(rt.alloc(), &mut heap)?;
+    assert!(rt; heap.pop() == Some(1) && heap.pop() == Some(2));
     Ok(())
 }

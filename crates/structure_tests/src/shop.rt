@@ -11,6 +11,7 @@ use seq_objects::{Call, Op};
 use std::alloc::{AllocError, Global};
 use std::fmt::Write;
 use std::test::Fail;
+use test_rows::all_hold;
 
 /// The calls of workers 0, 1, .., at consecutive leaves.
 fn calls_from(alloc: Global, first: u32, ops: &[Op]) -> Result<Vec<Call>, AllocError>
@@ -83,7 +84,7 @@ fn first_wrong(alloc: Global, rows: &[Row]) -> Result<Option<usize>, AllocError>
 }
 
 /// The operations of workers 0, 1, .. in each batch, and its entries: the worker and the reply of each.
-const ROWS: [Row; 4] = [
+const ROWS: &[Row] = &[
     (
         &[
             Op::Pop(0),
@@ -125,8 +126,7 @@ const ROWS: [Row; 4] = [
 
 #[test]
 fn batches_have_these_entries(rt: HostRuntime) -> Result<(), Fail> {
-    assert_eq!(rt; first_wrong(rt.alloc(), &ROWS)?, None);
-    Ok(())
+    all_hold(first_wrong(rt.alloc(), ROWS)?)
 }
 
 /// The outs of pieces that are run from the last to the first, in the order of the pieces.
@@ -168,7 +168,7 @@ fn serve_backwards(alloc: Global, ops: &[Op]) -> Result<(String, String), AllocE
 /// A batch of all kinds, one of 32 takes, and batches on several objects: pops of two empty stacks, 17 additions to a
 /// counter and one to another, takes of two queues, a tree and a stack of one number, two stacks whose pieces go
 /// together, and 32 objects.
-const BACKWARDS: [(&[Op], &str, &str); 8] = [
+const BACKWARDS: &[(&[Op], &str, &str)] = &[
     (
         &[
             Op::PqTake(0),
@@ -300,6 +300,5 @@ fn first_wrong_backwards(
 
 #[test]
 fn pieces_may_be_run_backwards(rt: HostRuntime) -> Result<(), Fail> {
-    assert_eq!(rt; first_wrong_backwards(rt.alloc(), &BACKWARDS)?, None);
-    Ok(())
+    all_hold(first_wrong_backwards(rt.alloc(), BACKWARDS)?)
 }

@@ -5,9 +5,10 @@ use batched_stack::Stack;
 use seq_objects::{Op, serve_batch};
 use std::alloc::{AllocError, Global};
 use std::test::Fail;
+use test_rows::all_hold;
 
 /// Pushes before pops, pops of later batches, and pops of an empty stack.
-const ROWS: [Row; 4] = [
+const ROWS: &[Row] = &[
     (&[Op::Pop(0), Op::Pop(0)], "empty empty"),
     (
         &[
@@ -28,8 +29,7 @@ const ROWS: [Row; 4] = [
 #[test]
 fn pushes_come_before_pops(rt: HostRuntime) -> Result<(), Fail> {
     let stack = Stack::new(rt.alloc())?;
-    assert_eq!(rt; first_wrong(rt.alloc(), stack, Op::Pop(0), &ROWS)?, None);
-    Ok(())
+    all_hold(first_wrong(rt.alloc(), stack, Op::Pop(0), ROWS)?)
 }
 
 /// The stack after some batches of up to 32 equal operations.
@@ -50,7 +50,7 @@ fn after(alloc: Global, stack: Stack, batches: u32, ops: &[Op]) -> Result<Stack,
 }
 
 /// How many batches of which operations come before the first stripe has a room.
-const ROOMS: [(u32, &[Op], u64); 5] = [
+const ROOMS: &[(u32, &[Op], u64)] = &[
     (8, &[Op::Push(0, 1); 32], 16),
     (1, &[Op::Push(0, 1)], 64),
     (4, &[Op::Pop(0); 32], 64),
@@ -73,6 +73,5 @@ fn first_other_room(alloc: Global) -> Result<Option<usize>, AllocError> {
 
 #[test]
 fn a_room_grows_and_shrinks_by_the_rule(rt: HostRuntime) -> Result<(), Fail> {
-    assert_eq!(rt; first_other_room(rt.alloc())?, None);
-    Ok(())
+    all_hold(first_other_room(rt.alloc())?)
 }

@@ -79,8 +79,7 @@ fn two_workers_start_leaves_at_one_time(rt: HostRuntime) -> Result<(), Fail> {
         starts: Meeting::new(),
     };
     let report = run_locked(&rt, rt.alloc(), &job, 2, &gate)?;
-    assert!(rt; gate.starts.was_kept());
-    assert!(rt; both_worked(&report));
+    assert!(rt; gate.starts.was_kept() && both_worked(&report));
     Ok(())
 }
 
@@ -91,8 +90,7 @@ fn two_workers_of_the_table_start_leaves_at_one_time(rt: HostRuntime) -> Result<
         starts: Meeting::new(),
     };
     let report = run_table(&rt, rt.alloc(), &job, 2, &gate)?;
-    assert!(rt; gate.starts.was_kept());
-    assert!(rt; both_worked(&report));
+    assert!(rt; gate.starts.was_kept() && both_worked(&report));
     Ok(())
 }
 
@@ -103,8 +101,7 @@ fn two_calls_that_are_pending_become_one_batch(rt: HostRuntime) -> Result<(), Fa
         posts: Meeting::new(),
     };
     let report = run_table(&rt, rt.alloc(), &job, 2, &gate)?;
-    assert!(rt; gate.posts.was_kept());
-    assert_eq!(rt; size_of(report.history.batches().first()), 2);
+    assert!(rt; gate.posts.was_kept() && size_of(report.history.batches().first()) == 2);
     Ok(())
 }
 
@@ -113,10 +110,12 @@ fn two_workers_run_pieces_of_one_batch_at_one_time(rt: HostRuntime) -> Result<()
     let job = four_takes(rt.alloc())?;
     let gate = AtCalls::new();
     let report = run_table(&rt, rt.alloc(), &job, 2, &gate)?;
-    assert!(rt; gate.posts.was_kept());
-    assert!(rt; gate.pieces.was_kept());
-    assert_eq!(rt; size_of(report.history.batches().first()), 2);
-    assert_eq!(rt; gate.first_batch_places(), 8);
+    assert!(rt;
+        gate.posts.was_kept()
+            && gate.pieces.was_kept()
+            && size_of(report.history.batches().first()) == 2
+            && gate.first_batch_places() == 8
+    );
     Ok(())
 }
 
@@ -124,8 +123,7 @@ fn two_workers_run_pieces_of_one_batch_at_one_time(rt: HostRuntime) -> Result<()
 fn one_worker_makes_a_batch_of_each_call(rt: HostRuntime) -> Result<(), Fail> {
     let job = four_adds(rt.alloc())?;
     let report = run_table(&rt, rt.alloc(), &job, 1, &NoPause)?;
-    assert_eq!(rt; report.rows.list().len(), 4);
-    assert_eq!(rt; report.history.batches().len(), 4);
+    assert!(rt; report.rows.list().len() == 4 && report.history.batches().len() == 4);
     Ok(())
 }
 
@@ -135,10 +133,13 @@ fn a_call_beside_a_launch_waits_for_two_batches_at_most(rt: HostRuntime) -> Resu
     let job = four_adds(rt.alloc())?;
     let gate = AtWin::new();
     let report = run_table(&rt, rt.alloc(), &job, 2, &gate)?;
-    assert!(rt; gate.wins.count() > 0 && gate.wins.missed() == 0);
-    assert!(rt; gate.posts.was_kept());
     let since = 0;
     let batch = batch_of(&report, gate.second_leaf());
-    assert!(rt; batch.is_some_and(|number| number <= since + 1));
+    assert!(rt;
+        gate.wins.count() > 0
+            && gate.wins.missed() == 0
+            && gate.posts.was_kept()
+            && batch.is_some_and(|number| number <= since + 1)
+    );
     Ok(())
 }

@@ -52,7 +52,7 @@ fn rejoined(words: &mut String, tree: Tree23, key: u32) -> Result<Tree23, AllocE
 }
 
 /// The operations before a cut at 5.
-const BEFORE: [Op; 11] = [
+const BEFORE: &[Op] = &[
     Op::TreeInsert(0, 1),
     Op::TreeInsert(0, 2),
     Op::TreeInsert(0, 3),
@@ -67,7 +67,7 @@ const BEFORE: [Op; 11] = [
 ];
 
 /// Those after it, where the sides are joined again.
-const AFTER: [Op; 3] = [
+const AFTER: &[Op] = &[
     Op::TreeRemove(0, 8),
     Op::TreeRemove(0, 4),
     Op::TreeFind(0, 4),
@@ -77,20 +77,20 @@ const AFTER: [Op; 3] = [
 fn words_of_cut(alloc: Global) -> Result<String, AllocError> {
     let mut words = String::new(alloc);
     let mut tree = Tree23::new(alloc);
-    push_answers(&mut words, &mut tree, &BEFORE)?;
+    push_answers(&mut words, &mut tree, BEFORE)?;
     let mut tree = rejoined(&mut words, tree, 5)?;
     push_answers(&mut words, &mut tree, &[])?;
-    push_answers(&mut words, &mut tree, &AFTER)?;
+    push_answers(&mut words, &mut tree, AFTER)?;
     Ok(words)
 }
 
+const CUT: &str =
+    "true true true true true true true false true 5 empty len 7 depth 0; 1 2 3 4 | 5 6 7
+len 7 depth 0;false true false len 6 depth 0;";
+
 #[test]
 fn a_tree_is_cut_and_joined(rt: HostRuntime) -> Result<(), Fail> {
-    assert_eq!(rt;
-        words_of_cut(rt.alloc())?.as_str(),
-        "true true true true true true true false true 5 empty len 7 depth 0; 1 2 3 4 | 5 6 7
-len 7 depth 0;false true false len 6 depth 0;"
-    );
+    assert!(rt; words_of_cut(rt.alloc())?.as_str() == CUT);
     Ok(())
 }
 
@@ -114,17 +114,24 @@ fn remove_all(tree: &mut Tree23) -> Option<u32> {
     None
 }
 
+/// Whether a tree with these keys has all of them, and is from 4 to 14 deep.
+fn is_not_deep(tree: &Tree23) -> bool {
+    let ends = tree.next(99990) == Some(99995) && tree.next(99995).is_none();
+    ends && tree.len() == 20000 && 4 <= tree.depth() && tree.depth() <= 14
+}
+
+/// Whether a tree to which a test gives these keys, and from which it takes them, has them in between.
+fn is_filled_and_emptied(alloc: Global) -> Result<bool, AllocError> {
+    let mut tree = Tree23::new(alloc);
+    let there = insert_all(&mut tree)?;
+    let full = there.is_none() && is_not_deep(&tree);
+    let gone = remove_all(&mut tree);
+    Ok(full && gone.is_none() && tree.len() == 0 && tree.depth() == 0)
+}
+
 #[test]
 fn a_tree_of_many_keys_is_not_deep(rt: HostRuntime) -> Result<(), Fail> {
-    let mut tree = Tree23::new(rt.alloc());
-    let there = insert_all(&mut tree)?;
-    let full = (tree.len(), 4 <= tree.depth() && tree.depth() <= 14);
-    let last = (tree.next(99990), tree.next(99995));
-    let gone = remove_all(&mut tree);
-    assert_eq!(rt;
-        ((there, gone), full, last, tree.len(), tree.depth()),
-        ((None, None), (20000, true), (Some(99995), None), 0, 0)
-    );
+    assert!(rt; is_filled_and_emptied(rt.alloc())?);
     Ok(())
 }
 
@@ -203,24 +210,34 @@ fn fill_forest(forest: &mut Forest) -> Result<Option<u32>, AllocError> {
     Ok(None)
 }
 
-#[test]
-fn a_forest_is_cut_and_put_together(rt: HostRuntime) -> Result<(), Fail> {
-    let mut forest = Forest::new(rt.alloc());
-    assert_eq!(rt; fill_forest(&mut forest)?, None);
-    let mut pool = ForestPool::new(rt.alloc());
+/// Whether the forests on both sides of a cut at 4,000 have the keys next to it.
+fn are_apart(low: &Forest, high: &Remaining) -> bool {
+    let next = (low.next(3990), low.next(3995));
+    high.least() == Some(4000) && !low.find(4000) && next == (Some(3995), None)
+}
+
+/// Whether a forest has the keys next to the cut, and gives up 4,000.
+fn is_whole(forest: &mut Forest) -> bool {
+    let joined = forest.find(4000) && forest.next(3995) == Some(4000);
+    let removed = forest.remove(4000) && !forest.remove(4001);
+    joined && removed && forest.next(3995) == Some(4005)
+}
+
+/// Whether a forest is cut at 4,000, and put together again.
+fn is_put_together(alloc: Global) -> Result<bool, AllocError> {
+    let mut forest = Forest::new(alloc);
+    let there = fill_forest(&mut forest)?;
+    let mut pool = ForestPool::new(alloc);
     let mut rest = Remaining::new(forest);
     let mut low = rest.split_off_below(4000, &mut pool)?;
-    assert_eq!(rt;
-        (rest.least(), low.find(4000), low.next(3990), low.next(3995)),
-        (Some(4000), false, Some(3995), None)
-    );
+    let apart = there.is_none() && are_apart(&low, &rest);
     low.append(rest.into_forest(), &mut pool)?;
     low.compact(&mut pool)?;
-    let joined = (low.find(4000), low.next(3995));
-    let removed = (low.remove(4000), low.remove(4001));
-    assert_eq!(rt;
-        (joined, removed, low.next(3995)),
-        ((true, Some(4000)), (true, false), Some(4005))
-    );
+    Ok(apart && is_whole(&mut low))
+}
+
+#[test]
+fn a_forest_is_cut_and_put_together(rt: HostRuntime) -> Result<(), Fail> {
+    assert!(rt; is_put_together(rt.alloc())?);
     Ok(())
 }

@@ -4,9 +4,10 @@ use crate::batch::{Row, first_wrong};
 use batched_tree::TreeSet;
 use seq_objects::Op;
 use std::test::Fail;
+use test_rows::all_hold;
 
 /// Queries see the keys before the updates, also those of another piece, and updates go by their keys.
-const ROWS: [Row; 5] = [
+const ROWS: &[Row] = &[
     (
         &[
             Op::TreeInsert(0, 30),
@@ -49,9 +50,5 @@ const ROWS: [Row; 5] = [
 fn queries_come_before_updates(rt: HostRuntime) -> Result<(), Fail> {
     let set = TreeSet::new(rt.alloc())?;
     set.keys_ascend();
-    assert_eq!(rt;
-        first_wrong(rt.alloc(), set, Op::TreeFind(0, 0), &ROWS)?,
-        None
-    );
-    Ok(())
+    all_hold(first_wrong(rt.alloc(), set, Op::TreeFind(0, 0), ROWS)?)
 }

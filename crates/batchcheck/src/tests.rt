@@ -12,8 +12,6 @@ use test_rows::Tested;
 pub(crate) struct BatchCheck;
 
 impl Tested for BatchCheck {
-    type Told = ();
-
     ghost may_run = { λ _. Unit {0} };
 
     fn run(
@@ -23,7 +21,7 @@ impl Tested for BatchCheck {
         shelf: &mut MemShelf,
         out: &mut MemSink,
         err: &mut MemSink,
-    ) -> (u8, ()) {
-        (batchcheck(alloc, words, shelf, out, err).number(), ())
+    ) -> u8 {
+        batchcheck(alloc, words, shelf, out, err).number()
     }
 }

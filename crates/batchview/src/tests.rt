@@ -12,8 +12,6 @@ use test_rows::Tested;
 pub(crate) struct BatchView;
 
 impl Tested for BatchView {
-    type Told = ();
-
     ghost may_run = { λ _. Unit {0} };
 
     fn run(
@@ -23,7 +21,7 @@ impl Tested for BatchView {
         shelf: &mut MemShelf,
         out: &mut MemSink,
         err: &mut MemSink,
-    ) -> (u8, ()) {
-        (batchview(alloc, words, shelf, out, err).number(), ())
+    ) -> u8 {
+        batchview(alloc, words, shelf, out, err).number()
     }
 }

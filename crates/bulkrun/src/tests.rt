@@ -17,8 +17,6 @@ pub(crate) struct BulkRun<'a, R> {
 }
 
 impl<'a, R: Threads + Sync> Tested for BulkRun<'a, R> {
-    type Told = ();
-
     ghost may_run = { λ _. IsSync R.row };
 
     fn run(
@@ -28,7 +26,7 @@ impl<'a, R: Threads + Sync> Tested for BulkRun<'a, R> {
         shelf: &mut MemShelf,
         out: &mut MemSink,
         err: &mut MemSink,
-    ) -> (u8, ()) {
-        (bulkrun(self.rt, alloc, words, shelf, out, err).number(), ())
+    ) -> u8 {
+        bulkrun(self.rt, alloc, words, shelf, out, err).number()
     }
 }

@@ -17,8 +17,6 @@ pub(crate) struct MapRun<'a, R> {
 }
 
 impl<'a, R: Threads + Sync> Tested for MapRun<'a, R> {
-    type Told = ();
-
     ghost may_run = { λ _. IsSync R.row };
 
     fn run(
@@ -28,7 +26,7 @@ impl<'a, R: Threads + Sync> Tested for MapRun<'a, R> {
         shelf: &mut MemShelf,
         out: &mut MemSink,
         err: &mut MemSink,
-    ) -> (u8, ()) {
-        (maprun(self.rt, alloc, words, shelf, out, err).number(), ())
+    ) -> u8 {
+        maprun(self.rt, alloc, words, shelf, out, err).number()
     }
 }

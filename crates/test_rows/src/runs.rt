@@ -7,9 +7,6 @@ const ROOM: usize = 4_194_304;
 
 /// A whole program, as a test runs it.
 pub trait Tested {
-    /// What it tells beside its exit number.
-    type Told: Drop;
-
     /// It may run: what its threads share can be shared.
     ghost may_run: { Self → Type 0 };
 
@@ -21,7 +18,7 @@ pub trait Tested {
         shelf: &mut MemShelf,
         out: &mut MemSink,
         err: &mut MemSink,
-    ) -> (u8, Self::Told)
+    ) -> u8
         requires { may_run self.now };
 }
 
@@ -58,16 +55,15 @@ impl<'a> Given<'a> {
     }
 }
 
-/// What a run did: its exit number, what it told, and what it wrote.
+/// What a run did: its exit number, and what it wrote.
 #[derive(Drop)]
-pub struct Ran<T> {
+pub struct Ran {
     pub number: u8,
-    pub told: T,
     pub out: MemSink,
     pub err: MemSink,
 }
 
-impl<T> Ran<T> {
+impl Ran {
     /// Whether it ended with this number, and wrote this to out and this to err.
     pub fn did(&self, number: u8, out: &[u8], err: &[u8]) -> bool {
         self.number == number && self.out.bytes() == out && self.err.bytes() == err
@@ -94,11 +90,7 @@ fn shelf_of(alloc: Global, given: &Given<'_>) -> Result<MemShelf, AllocError> {
 }
 
 /// Runs the program.
-pub fn run<P: Tested>(
-    alloc: Global,
-    program: &P,
-    given: &Given<'_>,
-) -> Result<Ran<P::Told>, AllocError>
+pub fn run<P: Tested>(alloc: Global, program: &P, given: &Given<'_>) -> Result<Ran, AllocError>
     requires { P.may_run program.now }
 {
     let words = strings(alloc, given.words)?;
@@ -106,11 +98,6 @@ pub fn run<P: Tested>(
     let write_fails = given.write_fails.to_vec(alloc)?;
     let mut out = MemSink::make(alloc, ROOM, given.write_cut.max(1), write_fails)?;
     let mut err = MemSink::make(alloc, ROOM, ROOM, given.err_fails.to_vec(alloc)?)?;
-    let (number, told) = program.run(alloc, &words, &mut shelf, &mut out, &mut err);
-    Ok(Ran {
-        number,
-        told,
-        out,
-        err,
-    })
+    let number = program.run(alloc, &words, &mut shelf, &mut out, &mut err);
+    Ok(Ran { number, out, err })
 }

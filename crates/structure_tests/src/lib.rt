@@ -1,5 +1,4 @@
-//! Tests of the serial objects, of the batched structures and the shop over them, of the deques, of the board, and of
-//! runs in threads, through their public calls alone.
+//! Tests of the serial objects, of the batched structures and of the shop over them, through their public calls alone.
 //!
 //! What a call replies and leaves is proved for every input; the rows here are worked by hand, and show that the
 //! clauses say what is meant, and that the calls succeed with ample memory.
@@ -8,11 +7,7 @@
 #[cfg(test)]
 mod batch;
 #[cfg(test)]
-mod board;
-#[cfg(test)]
 mod counter;
-#[cfg(test)]
-mod deques;
 #[cfg(test)]
 mod plain;
 #[cfg(test)]
@@ -21,8 +16,6 @@ mod queue;
 mod shop;
 #[cfg(test)]
 mod stack;
-#[cfg(test)]
-mod threads;
 #[cfg(test)]
 mod tree;
 #[cfg(test)]

@@ -1,6 +1,6 @@
 use Rattle.std.proofs.Common.{◌≢◌, ◌<◌}
 use Rattle.two_deques.specs.Hands.{held, workers_of, IsHandOf}
-use Rattle.structure_tests.proofs.deques.race.Given as goal
+use Rattle.thread_tests.proofs.deques.race.Given as goal
 
 abbrev pub invariant-loop-turn : goal.invariant-loop-turn
 invariant-loop-turn g l =

@@ -23,13 +23,6 @@ pub record IsCutBelow (stripes : List (List ℕ)) (first count : ℕ) (puts : Li
   pub all : (j : ℕ) → j < 16 → Contains (numbers_in pieces) j ⊎ IsLeft stripes first count puts found number rest j
   pub above : (j : ℕ) → number ≤ j → get_or rest j [] ≡ get_or stripes j []
 
-pub none_cut : (stripes : List (List ℕ)) (first count : ℕ) (puts : List ℕ) (found : ℕ) → IsCutBelow stripes first count puts found 0 stripes []
-none_cut stripes first count puts found = record {
-  each = tt;
-  all = λ j low. inr (record { same = refl; no_puts = λ less. absurd (omega (arith, less)); no_gets = λ less. absurd (omega (arith, less)) });
-  above = λ j le. refl;
-}
-
 pub all_cut : (stripes : List (List ℕ)) (first count : ℕ) (puts : List ℕ) (found : ℕ) (rest : List (List ℕ)) (pieces : List Piece)
     → IsCutBelow stripes first count puts found 16 rest pieces → IsCut stripes first count puts found rest pieces
 all_cut stripes first count puts found rest pieces cut = record {

@@ -1,7 +1,7 @@
 //! The set whose calls carry many keys, in one thread and in several.
 
 use crate::numbers::next_number;
-use crate::script::{Script, Served, first_wrong};
+use crate::script::{Script, Served, first_wrong, first_wrong_of};
 use bulk_calls::{BulkCall, BulkKind, BulkOp, BulkSet, Replies, in_batch_order};
 use std::alloc::{AllocError, Global};
 use std::collections::BTreeSet;
@@ -162,41 +162,22 @@ fn script_of(alloc: Global, rows: &[Row]) -> Result<Script<BulkOp>, AllocError> 
     Ok(script)
 }
 
-/// The place of the first of these lists of rows whose script gets other replies, if there is one.
-fn first_wrong_of<R: Threads + Sync>(
-    rt: &R,
-    alloc: Global,
-    lists: &[&[Row]],
-) -> Result<Option<usize>, AllocError> {
-    for (place, rows) in lists.iter().enumerate() {
-        let script = script_of(alloc, rows)?;
-        if first_wrong::<BulkSet, R>(rt, alloc, &script)?.is_some() {
-            return Ok(Some(place));
-        }
-    }
-    Ok(None)
-}
-
 #[test]
 fn threads_make_no_difference(rt: HostRuntime) -> Result<(), Fail> {
-    let lists = [FEW, WIDE];
-    all_hold(first_wrong_of(&rt, rt.alloc(), &lists)?)
-}
-
-/// The next number of 31 bits.
-fn next_bits(state: &mut u64) -> u32 {
-    (next_number(state) >> 33) as u32
+    let alloc = rt.alloc();
+    let scripts = vec![in alloc; script_of(alloc, FEW)?, script_of(alloc, WIDE)?]?;
+    all_hold(first_wrong_of::<BulkSet, _>(&rt, alloc, &scripts)?)
 }
 
 /// An operation with up to 64 keys below 3,000.
 fn random_operation(state: &mut u64) -> BulkOp {
-    let mut operation = BulkOp::new(match next_bits(state) % 8 {
+    let mut operation = BulkOp::new(match next_number(state) % 8 {
         0 | 1 => FIND,
         2..=4 => REMOVE,
         _ => INSERT,
     });
-    for _ in 0..next_bits(state) % 64 + 1 {
-        push_key(&mut operation, next_bits(state) % 3000);
+    for _ in 0..next_number(state) % 64 + 1 {
+        push_key(&mut operation, next_number(state) % 3000);
     }
     operation
 }
@@ -204,7 +185,7 @@ fn random_operation(state: &mut u64) -> BulkOp {
 /// Up to 32 operations.
 fn random_operations(alloc: Global, state: &mut u64) -> Result<Vec<BulkOp>, AllocError> {
     let mut operations = Vec::new(alloc);
-    for _ in 0..next_bits(state) % 32 + 1 {
+    for _ in 0..next_number(state) % 32 + 1 {
         operations.push(random_operation(state))?;
     }
     Ok(operations)

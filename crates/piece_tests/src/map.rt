@@ -125,72 +125,51 @@ const EDGES: &[Row] = &[
     ),
 ];
 
-/// A batch of 18 keys has 9 ranges; its indices fall in the last, in the first, in one between, and past all.
-const RANGES: &[Row] = &[
-    (
-        &[
-            MapOp::Put(0, 0),
-            MapOp::Put(10, 1),
-            MapOp::Put(20, 2),
-            MapOp::Put(30, 3),
-            MapOp::Put(40, 4),
-            MapOp::Put(50, 5),
-            MapOp::Put(60, 6),
-            MapOp::Put(70, 7),
-            MapOp::Put(80, 8),
-            MapOp::Put(90, 9),
-            MapOp::Put(100, 10),
-            MapOp::Put(110, 11),
-            MapOp::Put(120, 12),
-            MapOp::Put(130, 13),
-            MapOp::Put(140, 14),
-            MapOp::Put(150, 15),
-            MapOp::Put(160, 16),
-            MapOp::Put(170, 17),
-            MapOp::Put(180, 18),
-            MapOp::Put(190, 19),
-        ],
+/// A batch of 20 keys, and then one of 18 keys. It has 9 ranges; its indices fall in the last, in the first, in one
+/// between, and past all.
+fn ranges(alloc: Global) -> Result<Script<MapOp>, AllocError> {
+    let mut puts = Vec::new(alloc);
+    for place in 0..20u32 {
+        puts.push(MapOp::Put(10 * place, place))?;
+    }
+    let mut questions = Vec::new(alloc);
+    for place in 1..18u32 {
+        questions.push(MapOp::Rank(10 * place))?;
+    }
+    questions.extend_from_slice(&[
+        MapOp::Nth(19),
+        MapOp::Nth(0),
+        MapOp::Del(105),
+        MapOp::Nth(10),
+        MapOp::Nth(20),
+        MapOp::Del(100),
+    ])?;
+    let asked_again = vec![in alloc; MapOp::Nth(9), MapOp::Nth(10), MapOp::Nth(19)]?;
+    let mut script = Script::new(alloc);
+    script.add(
+        puts,
         "empty empty empty empty empty empty empty empty empty empty \
 empty empty empty empty empty empty empty empty empty empty",
-    ),
-    (
-        &[
-            MapOp::Rank(10),
-            MapOp::Rank(20),
-            MapOp::Rank(30),
-            MapOp::Rank(40),
-            MapOp::Rank(50),
-            MapOp::Rank(60),
-            MapOp::Rank(70),
-            MapOp::Rank(80),
-            MapOp::Rank(90),
-            MapOp::Rank(100),
-            MapOp::Rank(110),
-            MapOp::Rank(120),
-            MapOp::Rank(130),
-            MapOp::Rank(140),
-            MapOp::Rank(150),
-            MapOp::Rank(160),
-            MapOp::Rank(170),
-            MapOp::Nth(19),
-            MapOp::Nth(0),
-            MapOp::Del(105),
-            MapOp::Nth(10),
-            MapOp::Nth(20),
-            MapOp::Del(100),
-        ],
+    )?;
+    script.add(
+        questions,
         "1 2 3 4 5 6 7 8 9 10 11 12 13 14 15 16 17 190 0 100 empty 10 empty",
-    ),
-    (
-        &[MapOp::Nth(9), MapOp::Nth(10), MapOp::Nth(19)],
-        "90 110 empty",
-    ),
-];
+    )?;
+    script.add(asked_again, "90 110 empty")?;
+    Ok(script)
+}
 
 #[test]
 fn threads_make_no_difference(rt: HostRuntime) -> Result<(), Fail> {
-    let lists = [FEW, KEYLESS, ORDERED, EDGES, RANGES];
-    all_hold(first_wrong_of::<RankBook, _>(&rt, rt.alloc(), &lists)?)
+    let alloc = rt.alloc();
+    let scripts = vec![in alloc;
+        Script::of(alloc, FEW)?,
+        Script::of(alloc, KEYLESS)?,
+        Script::of(alloc, ORDERED)?,
+        Script::of(alloc, EDGES)?,
+        ranges(alloc)?,
+    ]?;
+    all_hold(first_wrong_of::<RankBook, _>(&rt, alloc, &scripts)?)
 }
 
 /// How many pairs of an ascending list have a lower key.
@@ -234,14 +213,14 @@ fn serve_sorted(pairs: &mut Vec<(u32, u32)>, operation: MapOp) -> Result<Reply, 
 }
 
 /// An operation on one of 200 keys, or on one of the edges.
-fn operation_of(random: u64) -> MapOp {
-    let number = (random >> 33) as u32;
+fn random_operation(state: &mut u64) -> MapOp {
+    let number = next_number(state);
     let key = match number % 16 {
         0 => 4294967295,
         1 => 0,
         _ => number / 16 % 200 * 7,
     };
-    match random >> 20 & 7 {
+    match next_number(state) % 8 {
         0 | 1 => MapOp::Put(key, number),
         2 | 3 => MapOp::Del(key),
         4 => MapOp::Get(key),
@@ -254,7 +233,7 @@ fn operation_of(random: u64) -> MapOp {
 fn random_operations(alloc: Global, state: &mut u64) -> Result<Vec<MapOp>, AllocError> {
     let mut operations = Vec::new(alloc);
     for _ in 0..32u32 {
-        operations.push(operation_of(next_number(state)))?;
+        operations.push(random_operation(state))?;
     }
     Ok(operations)
 }

@@ -1,7 +1,7 @@
 //! The queue, in one thread and in several.
 
 use crate::script::{Script, Served, first_wrong, first_wrong_of};
-use crate::words::{push_words, words_of};
+use crate::words::push_words;
 use batched_queue::{FifoQueue, in_batch_order};
 use seq_objects::Reply;
 use std::alloc::{AllocError, Global};
@@ -54,86 +54,52 @@ const FEW: &[Row] = &[
     (&[GET], "0"),
 ];
 
+/// How many workers get, what the workers behind them put, and the replies in batch order.
+type WideRow = (usize, &'static [u32], &'static str);
+
 /// A queue that runs empty, and then items in all stripes.
-const ROUND: &[Row] = &[
-    (&[Some(100), GET, GET], "ok 100 empty"),
+const ROUND: &[WideRow] = &[
+    (2, &[100], "ok 100 empty"),
     (
-        &[
-            Some(1),
-            Some(2),
-            Some(3),
-            Some(4),
-            Some(5),
-            Some(6),
-            Some(7),
-            Some(8),
-            Some(9),
-            Some(10),
-            Some(11),
-            Some(12),
-            Some(13),
-            Some(14),
-            Some(15),
-            Some(16),
-            Some(17),
-        ],
+        0,
+        &[1, 2, 3, 4, 5, 6, 7, 8, 9, 10, 11, 12, 13, 14, 15, 16, 17],
         "ok ok ok ok ok ok ok ok ok ok ok ok ok ok ok ok ok",
     ),
-    (
-        &[
-            GET, GET, GET, GET, GET, GET, GET, GET, GET, GET, GET, GET, GET, GET, GET, GET, GET,
-            GET,
-        ],
-        "1 2 3 4 5 6 7 8 9 10 11 12 13 14 15 16 17 empty",
-    ),
+    (18, &[], "1 2 3 4 5 6 7 8 9 10 11 12 13 14 15 16 17 empty"),
 ];
 
 /// A batch of 32 that touches each stripe, and one that takes what it leaves.
-const FULL: &[Row] = &[
+const FULL: &[WideRow] = &[
     (
-        &[
-            GET,
-            GET,
-            GET,
-            GET,
-            GET,
-            GET,
-            GET,
-            GET,
-            GET,
-            GET,
-            GET,
-            GET,
-            GET,
-            GET,
-            GET,
-            Some(1),
-            Some(2),
-            Some(3),
-            Some(4),
-            Some(5),
-            Some(6),
-            Some(7),
-            Some(8),
-            Some(9),
-            Some(10),
-            Some(11),
-            Some(12),
-            Some(13),
-            Some(14),
-            Some(15),
-            Some(16),
-            Some(17),
-        ],
+        15,
+        &[1, 2, 3, 4, 5, 6, 7, 8, 9, 10, 11, 12, 13, 14, 15, 16, 17],
         "ok ok ok ok ok ok ok ok ok ok ok ok ok ok ok ok ok 1 2 3 4 5 6 7 8 9 10 11 12 13 14 15",
     ),
-    (&[GET, GET, GET], "16 17 empty"),
+    (3, &[], "16 17 empty"),
 ];
+
+/// The script of these rows.
+fn script_of(alloc: Global, rows: &[WideRow]) -> Result<Script<Option<u32>>, AllocError> {
+    let mut script = Script::new(alloc);
+    for (gets, numbers, replies) in rows {
+        let mut operations = vec![in alloc; GET; *gets]?;
+        for number in numbers.iter() {
+            operations.push(Some(*number))?;
+        }
+        script.add(operations, replies)?;
+    }
+    Ok(script)
+}
 
 #[test]
 fn threads_make_no_difference(rt: HostRuntime) -> Result<(), Fail> {
-    let lists = [FEW, ROUND, FULL];
-    all_hold(first_wrong_of::<FifoQueue, _>(&rt, rt.alloc(), &lists)?)
+    let alloc = rt.alloc();
+    let scripts = vec![in alloc;
+        Script::of(alloc, FEW)?,
+        script_of(alloc, ROUND)?,
+        script_of(alloc, FULL)?,
+    ]?;
+    all_hold(first_wrong_of::<FifoQueue, _>(&rt, alloc, &scripts)?)
 }
 
 /// Appends a batch that makes one operation 32 times, each with the same reply.
@@ -143,9 +109,9 @@ fn add_same(
     operation: Option<u32>,
     reply: Reply,
 ) -> Result<(), AllocError> {
-    let operations = [operation; 32].to_vec(alloc)?;
-    let words = words_of(alloc, &[reply; 32])?;
-    script.add(operations, words.as_str())
+    let mut words = String::new(alloc);
+    push_words(&mut words, &[reply; 32])?;
+    script.add([operation; 32].to_vec(alloc)?, words.as_str())
 }
 
 /// A hundred batches of puts, a hundred of gets, and one that finds the queue empty.
@@ -162,7 +128,7 @@ fn all_round(alloc: Global) -> Result<Script<Option<u32>>, AllocError> {
 }
 
 #[test]
-fn a_queue_grows_and_gives_its_memory_back(rt: HostRuntime) -> Result<(), Fail> {
+fn a_queue_takes_a_hundred_batches_and_gives_them_back(rt: HostRuntime) -> Result<(), Fail> {
     let script = all_round(rt.alloc())?;
     all_hold(first_wrong::<FifoQueue, _>(&rt, rt.alloc(), &script)?)
 }

@@ -1,7 +1,8 @@
 //! The map with rank and select.
-ghost use Rattle.std.specs.Prelude.{◌<◌, IfOk};
+ghost use Rattle.std.specs.Prelude.{IfOk};
 ghost use Rattle.rank_nodes.specs.Maps.{AllBelow};
 
+use crate::numbers::next_number;
 use rank_tree::RankTree;
 use seq_objects::Reply;
 use std::alloc::{AllocError, Global};
@@ -84,11 +85,6 @@ fn words_of(alloc: Global, rows: &[(&[Step], u32)]) -> Result<String, AllocError
     Ok(words)
 }
 
-/// Whether these are the answers.
-fn are_answers(alloc: Global, rows: &[(&[Step], u32)], wanted: &str) -> Result<bool, AllocError> {
-    Ok(words_of(alloc, rows)?.as_str() == wanted)
-}
-
 /// A map of four keys, which is asked for keys that are there and not there.
 const FOUR: &[(&[Step], u32)] = &[
     (&[], 20),
@@ -119,7 +115,7 @@ empty empty empty empty 2 9 empty 1 2 20 empty len 4 depth 0; 10 | 20 30 40
 
 #[test]
 fn a_map_is_cut_and_joined(rt: HostRuntime) -> Result<(), Fail> {
-    assert!(rt; are_answers(rt.alloc(), FOUR, FOUR_ANSWERS)?);
+    assert!(rt; words_of(rt.alloc(), FOUR)?.as_str() == FOUR_ANSWERS);
     Ok(())
 }
 
@@ -155,7 +151,7 @@ len 2 depth 0; 0 | 4294967295
 
 #[test]
 fn the_least_key_and_the_greatest(rt: HostRuntime) -> Result<(), Fail> {
-    assert!(rt; are_answers(rt.alloc(), EDGES, EDGES_ANSWERS)?);
+    assert!(rt; words_of(rt.alloc(), EDGES)?.as_str() == EDGES_ANSWERS);
     Ok(())
 }
 
@@ -205,14 +201,6 @@ fn a_map_of_many_keys_is_not_deep(rt: HostRuntime) -> Result<(), Fail> {
     Ok(())
 }
 
-/// The next number of a pseudorandom sequence, below 2,000.
-fn next_number(state: &mut u32) -> u32
-    ensures { result < 2000 }
-{
-    *state = state.wrapping_mul(1_664_525).wrapping_add(1_013_904_223);
-    (*state >> 12) % 2000
-}
-
 /// Whether each key of std's map, in order, has its index, its rank and its value in a tree of as many keys.
 fn is_same(tree: &RankTree, map: &BTreeMap<u32, u32>) -> bool {
     let mut i = 0u64;
@@ -225,16 +213,17 @@ fn is_same(tree: &RankTree, map: &BTreeMap<u32, u32>) -> bool {
     tree.len() == i && tree.nth(i).is_none()
 }
 
-/// Whether a pseudorandom call, a put where a number is below `puts` and else a removal, is answered alike.
+/// Whether a call on one of 2,000 keys that look random, in `puts` of four a put and else a removal, is answered alike.
 fn is_alike(
     tree: &mut RankTree,
     map: &mut BTreeMap<u32, u32>,
-    state: &mut u32,
+    state: &mut u64,
     puts: u32,
 ) -> Result<bool, AllocError> {
-    let key = next_number(state);
-    if next_number(state) < puts {
-        Ok(tree.put(key, *state)? == map.insert(key, *state)?)
+    let key = next_number(state) % 2000;
+    let val = next_number(state);
+    if val % 4 < puts {
+        Ok(tree.put(key, val)? == map.insert(key, val)?)
     } else {
         Ok(tree.del(key) == map.remove(&key))
     }
@@ -244,7 +233,7 @@ fn is_alike(
 fn are_alike(
     tree: &mut RankTree,
     map: &mut BTreeMap<u32, u32>,
-    state: &mut u32,
+    state: &mut u64,
     puts: u32,
 ) -> Result<bool, AllocError> {
     for _ in 0..100u32 {
@@ -269,9 +258,9 @@ fn first_unlike(alloc: Global) -> Result<Option<usize>, AllocError> {
     let mut map = BTreeMap::new(alloc);
     let mut state = 1;
     for hundred in 0..90usize {
-        let puts = if hundred < 50 { 1500 } else { 500 };
+        let puts = if hundred < 50 { 3 } else { 1 };
         let alike = are_alike(&mut tree, &mut map, &mut state, puts)?;
-        let (next, apart) = cut_apart(tree, next_number(&mut state))?;
+        let (next, apart) = cut_apart(tree, next_number(&mut state) % 2000)?;
         tree = next;
         if !alike || !apart || !is_same(&tree, &map) {
             return Ok(Some(hundred));

@@ -93,18 +93,14 @@ pub(crate) fn first_wrong<S: Served, R: Threads + Sync>(
     Ok(None)
 }
 
-/// The place of the first of these lists of rows whose script gets other replies, if there is one.
+/// The place of the first of these scripts that gets other replies, if there is one.
 pub(crate) fn first_wrong_of<S: Served, R: Threads + Sync>(
     rt: &R,
     alloc: Global,
-    lists: &[&[(&[S::Operation], &str)]],
-) -> Result<Option<usize>, AllocError>
-where
-    S::Operation: Copy,
-{
-    for (place, rows) in lists.iter().enumerate() {
-        let script = Script::of(alloc, rows)?;
-        if first_wrong::<S, R>(rt, alloc, &script)?.is_some() {
+    scripts: &[Script<S::Operation>],
+) -> Result<Option<usize>, AllocError> {
+    for (place, script) in scripts.iter().enumerate() {
+        if first_wrong::<S, R>(rt, alloc, script)?.is_some() {
             return Ok(Some(place));
         }
     }

@@ -1,7 +1,7 @@
 //! Replies in words.
 
 use seq_objects::Reply;
-use std::alloc::{AllocError, Global};
+use std::alloc::AllocError;
 use std::fmt::Write;
 
 /// Appends the words of replies, separated by spaces.
@@ -13,11 +13,4 @@ pub(crate) fn push_words(words: &mut String, replies: &[Reply]) -> Result<(), Al
         write!(words, "{reply}")?;
     }
     Ok(())
-}
-
-/// The words of replies, separated by spaces.
-pub(crate) fn words_of(alloc: Global, replies: &[Reply]) -> Result<String, AllocError> {
-    let mut words = String::new(alloc);
-    push_words(&mut words, replies)?;
-    Ok(words)
 }

@@ -3,9 +3,8 @@
 mod faults;
 
 use crate::program::batchview;
-use bt_io::{MemShelf, MemSink};
 use std::alloc::Global;
-use test_rows::Tested;
+use test_rows::{Edge, Tested};
 
 /// The program.
 #[derive(Drop)]
@@ -14,14 +13,13 @@ pub(crate) struct BatchView;
 impl Tested for BatchView {
     ghost may_run = { λ _. Unit {0} };
 
-    fn run(
-        &self,
-        alloc: Global,
-        words: &[String],
-        shelf: &mut MemShelf,
-        out: &mut MemSink,
-        err: &mut MemSink,
-    ) -> u8 {
+    fn run(&self, alloc: Global, edge: &mut Edge) -> u8 {
+        let Edge {
+            words,
+            shelf,
+            out,
+            err,
+        } = edge;
         batchview(alloc, words, shelf, out, err).number()
     }
 }

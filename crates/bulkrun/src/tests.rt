@@ -5,10 +5,9 @@ mod faults;
 mod scripts;
 
 use crate::program::bulkrun;
-use bt_io::{MemShelf, MemSink};
 use std::alloc::Global;
 use std::thread::Threads;
-use test_rows::Tested;
+use test_rows::{Edge, Tested};
 
 /// The program, with what starts its threads.
 #[derive(Drop)]
@@ -19,14 +18,13 @@ pub(crate) struct BulkRun<'a, R> {
 impl<'a, R: Threads + Sync> Tested for BulkRun<'a, R> {
     ghost may_run = { λ _. IsSync R.row };
 
-    fn run(
-        &self,
-        alloc: Global,
-        words: &[String],
-        shelf: &mut MemShelf,
-        out: &mut MemSink,
-        err: &mut MemSink,
-    ) -> u8 {
+    fn run(&self, alloc: Global, edge: &mut Edge) -> u8 {
+        let Edge {
+            words,
+            shelf,
+            out,
+            err,
+        } = edge;
         bulkrun(self.rt, alloc, words, shelf, out, err).number()
     }
 }

@@ -1,24 +1,26 @@
-//! Runs of a whole program over memory: what a run is given, and what it did.
+//! Runs of a whole program over memory: what a run is given, the edge that is made of it, and what the run did.
 use bt_io::{MemShelf, MemSink};
 use std::alloc::{AllocError, Global};
 
 /// The room of each sink, and the most bytes that a call of a shelf or of a sink moves where none are said: 4 MiB.
 const ROOM: usize = 4_194_304;
 
+/// The edge of a program in memory: its words, its shelf, and its sinks.
+#[derive(Drop)]
+pub struct Edge {
+    pub words: Vec<String>,
+    pub shelf: MemShelf,
+    pub out: MemSink,
+    pub err: MemSink,
+}
+
 /// A whole program, as a test runs it.
 pub trait Tested {
     /// It may run: what its threads share can be shared.
     ghost may_run: { Self → Type 0 };
 
-    /// Runs the program on its words. It gives its exit number.
-    fn run(
-        &self,
-        alloc: Global,
-        words: &[String],
-        shelf: &mut MemShelf,
-        out: &mut MemSink,
-        err: &mut MemSink,
-    ) -> u8
+    /// Runs the program. It gives its exit number.
+    fn run(&self, alloc: Global, edge: &mut Edge) -> u8
         requires { may_run self.now };
 }
 
@@ -53,6 +55,27 @@ impl<'a> Given<'a> {
             err_fails: &[],
         }
     }
+
+    /// The edge of the run.
+    pub fn edge(&self, alloc: Global) -> Result<Edge, AllocError> {
+        let mut words = Vec::new(alloc);
+        for word in self.words {
+            words.push(word.to_string(alloc)?)?;
+        }
+        let mut files = Vec::new(alloc);
+        for (name, bytes) in self.files {
+            files.push((name.to_string(alloc)?, bytes.to_vec(alloc)?))?;
+        }
+        let read_fails = self.read_fails.to_vec(alloc)?;
+        let write_fails = self.write_fails.to_vec(alloc)?;
+        let err_fails = self.err_fails.to_vec(alloc)?;
+        Ok(Edge {
+            words,
+            shelf: MemShelf::make(files, self.read_cut.max(1), read_fails),
+            out: MemSink::make(alloc, ROOM, self.write_cut.max(1), write_fails)?,
+            err: MemSink::make(alloc, ROOM, ROOM, err_fails)?,
+        })
+    }
 }
 
 /// What a run did: its exit number, and what it wrote.
@@ -70,34 +93,12 @@ impl Ran {
     }
 }
 
-/// The words as strings.
-fn strings(alloc: Global, words: &[&str]) -> Result<Vec<String>, AllocError> {
-    let mut strings = Vec::new(alloc);
-    for word in words {
-        strings.push(word.to_string(alloc)?)?;
-    }
-    Ok(strings)
-}
-
-/// The shelf of a run.
-fn shelf_of(alloc: Global, given: &Given<'_>) -> Result<MemShelf, AllocError> {
-    let mut files = Vec::new(alloc);
-    for (name, bytes) in given.files {
-        files.push((name.to_string(alloc)?, bytes.to_vec(alloc)?))?;
-    }
-    let fails = given.read_fails.to_vec(alloc)?;
-    Ok(MemShelf::make(files, given.read_cut.max(1), fails))
-}
-
 /// Runs the program.
 pub fn run<P: Tested>(alloc: Global, program: &P, given: &Given<'_>) -> Result<Ran, AllocError>
     requires { P.may_run program.now }
 {
-    let words = strings(alloc, given.words)?;
-    let mut shelf = shelf_of(alloc, given)?;
-    let write_fails = given.write_fails.to_vec(alloc)?;
-    let mut out = MemSink::make(alloc, ROOM, given.write_cut.max(1), write_fails)?;
-    let mut err = MemSink::make(alloc, ROOM, ROOM, given.err_fails.to_vec(alloc)?)?;
-    let number = program.run(alloc, &words, &mut shelf, &mut out, &mut err);
+    let mut edge = given.edge(alloc)?;
+    let number = program.run(alloc, &mut edge);
+    let Edge { out, err, .. } = edge;
     Ok(Ran { number, out, err })
 }

@@ -1,14 +1,32 @@
 //! Runs with a thread for each worker.
-use crate::tests::{run_held, unhindered};
+use crate::tests::run_held;
 use batch_history::Report;
+use bt_io::Pause;
+use std::alloc::{AllocError, Global};
+use std::sync::Wait;
 use std::test::Fail;
+use std::thread::Threads;
 use test_gates::{AtCalls, AtPosts, AtStarts, Meeting};
-
-const TWO_THREADS: [&str; 3] = ["run", "-", "2"];
+use test_rows::Given;
 
 const FOUR_ADDS: &[u8] = b"par { counter add 1 counter add 2 counter add 3 counter add 4 }";
 
 const FOUR_TAKES: &[u8] = b"par { queue take queue take queue take queue take }";
+
+/// The report of a run of a job in two threads that a gate holds, where the run is done.
+fn report_of<R: Threads + Wait + Sync, G: Pause + Sync>(
+    rt: &R,
+    alloc: Global,
+    text: &[u8],
+    gate: &G,
+) -> Result<Option<Report>, AllocError> {
+    let mut edge = Given::unhindered(&["run", "-", "2"], &[("-", text)]).edge(alloc)?;
+    let outcome = run_held(rt, alloc, &mut edge, gate);
+    if outcome.status.number() != 0 {
+        return Ok(None);
+    }
+    Ok(outcome.report)
+}
 
 /// Whether a worker has run a leaf.
 fn has_worked(report: &Report, worker: u32) -> bool {
@@ -28,16 +46,13 @@ fn two_workers_start_leaves_at_one_time(rt: HostRuntime) -> Result<(), Fail> {
     let gate = AtStarts {
         starts: Meeting::new(),
     };
-    let given = unhindered(&TWO_THREADS, FOUR_ADDS);
-    let ran = run_held(&rt, rt.alloc(), &given, &gate)?;
-    assert_eq!(rt; ran.outcome.status.number(), 0);
-    assert!(rt; gate.starts.was_kept());
-    let Some(report) = &ran.outcome.report else {
-        return Ok(assert!(rt; false));
-    };
-    assert_eq!(rt; report.rows.list().len(), 4);
-    assert!(rt; has_worked(report, 0));
-    assert!(rt; has_worked(report, 1));
+    let report = report_of(&rt, rt.alloc(), FOUR_ADDS, &gate)?.expect(&rt, "a report");
+    assert!(rt;
+        gate.starts.was_kept()
+            && report.rows.list().len() == 4
+            && has_worked(&report, 0)
+            && has_worked(&report, 1)
+    );
     Ok(())
 }
 
@@ -46,29 +61,20 @@ fn calls_that_wait_at_one_time_are_one_batch(rt: HostRuntime) -> Result<(), Fail
     let gate = AtPosts {
         posts: Meeting::new(),
     };
-    let given = unhindered(&TWO_THREADS, FOUR_ADDS);
-    let ran = run_held(&rt, rt.alloc(), &given, &gate)?;
-    assert_eq!(rt; ran.outcome.status.number(), 0);
-    assert!(rt; gate.posts.was_kept());
-    let Some(report) = &ran.outcome.report else {
-        return Ok(assert!(rt; false));
-    };
-    assert_eq!(rt; first_size(report), 2);
+    let report = report_of(&rt, rt.alloc(), FOUR_ADDS, &gate)?.expect(&rt, "a report");
+    assert!(rt; gate.posts.was_kept() && first_size(&report) == 2);
     Ok(())
 }
 
 #[test]
 fn two_workers_run_pieces_of_one_batch(rt: HostRuntime) -> Result<(), Fail> {
     let gate = AtCalls::new();
-    let given = unhindered(&TWO_THREADS, FOUR_TAKES);
-    let ran = run_held(&rt, rt.alloc(), &given, &gate)?;
-    assert_eq!(rt; ran.outcome.status.number(), 0);
-    assert!(rt; gate.posts.was_kept());
-    assert!(rt; gate.pieces.was_kept());
-    assert_eq!(rt; gate.first_batch_places(), 8);
-    let Some(report) = &ran.outcome.report else {
-        return Ok(assert!(rt; false));
-    };
-    assert_eq!(rt; first_size(report), 2);
+    let report = report_of(&rt, rt.alloc(), FOUR_TAKES, &gate)?.expect(&rt, "a report");
+    assert!(rt;
+        gate.posts.was_kept()
+            && gate.pieces.was_kept()
+            && gate.first_batch_places() == 8
+            && first_size(&report) == 2
+    );
     Ok(())
 }

@@ -9,7 +9,7 @@ use decimals::decimal_in;
 use program_io::{End, Line, Program, Stop, read_file, run_program};
 use std::alloc::{AllocError, Global};
 use std::test::Fail;
-use test_rows::all_hold;
+use test_rows::{all_hold, files_of};
 
 /// Why a file gives no number.
 #[derive(Clone, Copy)]
@@ -86,18 +86,46 @@ impl<'a> Program for Greater<'a> {
     }
 }
 
-/// The second file, the call of the shelf that fails, the room of out, how the run ends, and what out took.
-type Run = (&'static [u8], u64, usize, u8, &'static [u8]);
+/// A call that is never made.
+const NONE: u64 = 99;
+
+/// The second file, the call of the shelf, of out and of err that fails, how the run ends, and what out and err took. Calls
+/// 0 and 3 of the shelf choose a file; each other one, and each call of out, moves at most one byte. Err takes the parts of
+/// its line one a call.
+type Run = (
+    &'static [u8],
+    u64,
+    u64,
+    u64,
+    u8,
+    &'static [u8],
+    &'static [u8],
+);
+
+const ENDED: &[u8] = b"greater: ended\n";
 
 const RUNS: &[Run] = &[
-    (b"12", 99, 9, 0, b"12\n"),
-    (b"1", 99, 9, 0, b"7\n"),
-    (b"12", 0, 9, 3, b""),
-    (b"12", 3, 9, 3, b""),
-    (b"123", 99, 9, 0, b"123\n"),
-    (b"1234", 99, 9, 4, b""),
-    (b"012", 99, 9, 5, b""),
-    (b"12", 99, 2, 6, b"12"),
+    (b"12", NONE, NONE, NONE, 0, b"12\n", ENDED),
+    (b"1", NONE, NONE, NONE, 0, b"7\n", ENDED),
+    (b"123", NONE, NONE, NONE, 0, b"123\n", ENDED),
+    (b"1234", NONE, NONE, NONE, 4, b"", ENDED),
+    (b"012", NONE, NONE, NONE, 5, b"", ENDED),
+    (b"12", 0, NONE, NONE, 3, b"", ENDED),
+    (b"12", 1, NONE, NONE, 3, b"", ENDED),
+    (b"12", 2, NONE, NONE, 3, b"", ENDED),
+    (b"12", 3, NONE, NONE, 3, b"", ENDED),
+    (b"12", 4, NONE, NONE, 3, b"", ENDED),
+    (b"12", 5, NONE, NONE, 3, b"", ENDED),
+    (b"12", 6, NONE, NONE, 3, b"", ENDED),
+    (b"12", 7, NONE, NONE, 0, b"12\n", ENDED),
+    (b"12", NONE, 0, NONE, 6, b"", ENDED),
+    (b"12", NONE, 1, NONE, 6, b"1", ENDED),
+    (b"12", NONE, 2, NONE, 6, b"12", ENDED),
+    (b"12", NONE, 3, NONE, 0, b"12\n", ENDED),
+    (b"12", NONE, NONE, 0, 0, b"12\n", b""),
+    (b"12", 1, NONE, 1, 3, b"", b"greater"),
+    (b"1234", NONE, NONE, 2, 4, b"", b"greater: "),
+    (b"12", NONE, 1, 3, 6, b"1", b"greater: ended"),
 ];
 
 /// A number for each way in which a run ends.
@@ -114,29 +142,27 @@ fn number_of(end: End<Refusal>) -> u8 {
 
 /// The shelf of the files `a`, which holds 7, and `b`, where one call fails.
 fn shelf_of(alloc: Global, second: &[u8], fails: u64) -> Result<MemShelf, AllocError> {
-    let mut files = Vec::new(alloc);
-    files.push(("a".to_string(alloc)?, b"7".to_vec(alloc)?))?;
-    files.push(("b".to_string(alloc)?, second.to_vec(alloc)?))?;
-    Ok(MemShelf::make(files, 9, vec![in alloc; fails]?))
+    let files = files_of(alloc, &[("a", b"7"), ("b", second)])?;
+    Ok(MemShelf::make(files, 1, vec![in alloc; fails]?))
 }
 
-/// Whether a run ends so. It tells a number where it has one, and always writes its line to err.
+/// Whether a run ends so. It tells a number where it has one, and ends by a line to err in any case.
 fn ends_so(alloc: Global, row: &Run) -> Result<bool, AllocError> {
-    let (second, fails, room, number, taken) = *row;
+    let (second, read, write, tell, number, taken, line) = *row;
     let program = Greater {
         first: "a",
         second: "b",
     };
-    let mut shelf = shelf_of(alloc, second, fails)?;
-    let mut out = MemSink::make(alloc, room, 1, Vec::new(alloc))?;
-    let mut err = MemSink::make(alloc, 99, 99, Vec::new(alloc))?;
+    let mut shelf = shelf_of(alloc, second, read)?;
+    let mut out = MemSink::make(alloc, 9, 1, vec![in alloc; write]?)?;
+    let mut err = MemSink::make(alloc, 99, 99, vec![in alloc; tell]?)?;
     let ran = run_program(alloc, &program, &mut shelf, &mut out, &mut err);
     let tells = number == 0 || number == 6;
     Ok(
         number_of(ran.end) == number
             && ran.told.is_some() == tells
             && out.bytes() == taken
-            && err.bytes() == b"greater: ended\n".as_slice(),
+            && err.bytes() == line,
     )
 }
 

@@ -13,8 +13,6 @@ mod call;
 mod line;
 pub mod program;
 mod server;
-#[cfg(test)]
-mod tests;
 
 use batch_script::end_without_words;
 use bt_io::{StdShelf, StdSink};

@@ -14,8 +14,6 @@
 mod check;
 pub mod laws;
 pub mod program;
-#[cfg(test)]
-mod tests;
 pub mod verdict;
 mod words;
 

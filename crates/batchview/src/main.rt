@@ -12,8 +12,6 @@
 mod draw;
 pub mod program;
 pub mod status;
-#[cfg(test)]
-mod tests;
 mod words;
 
 use bt_io::{StdShelf, StdSink};

@@ -6,22 +6,16 @@ use crate::in_memory::step_in_memory;
 use crate::tests::{ONE_ADD, STEP};
 use bt_io::{MemShelf, MemSink};
 use std::test::Fail;
+use test_rows::{files_of, words_of};
 
 /// The room of out, and the exit number of `counter add 5`: the text of its report takes exactly the first room.
 const ROOMS: [(usize, u8); 2] = [(ONE_ADD.len(), 0), (ONE_ADD.len() - 1, 5)];
 
 #[test]
 fn a_run_is_done_where_the_text_has_exactly_its_room(rt: HostRuntime) -> Result<(), Fail> {
-    let mut words = Vec::new(rt.alloc());
-    for word in STEP {
-        words.push(word.to_string(rt.alloc())?)?;
-    }
+    let words = words_of(rt.alloc(), STEP)?;
     for (room, number) in ROOMS {
-        let mut files = Vec::new(rt.alloc());
-        files.push((
-            "-".to_string(rt.alloc())?,
-            b"counter add 5".to_vec(rt.alloc())?,
-        ))?;
+        let files = files_of(rt.alloc(), &[("-", b"counter add 5")])?;
         let mut shelf = MemShelf::make(files, 4096, Vec::new(rt.alloc()));
         let mut out = MemSink::make(rt.alloc(), room, 40, Vec::new(rt.alloc()))?;
         let mut err = MemSink::make(rt.alloc(), 4096, 4096, Vec::new(rt.alloc()))?;

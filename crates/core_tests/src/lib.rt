@@ -1,4 +1,4 @@
-//! Tests of the core by turns, of the history and its text, and of shelves and sinks, through their public calls alone.
+//! Tests of the core by turns, and of shelves and sinks, through their public calls alone.
 //!
 //! How a run ends in which a worker has stopped is proved for every state. The tables here show which of the two ends a
 //! small job comes to after each of its turns, and what each turn does.
@@ -7,11 +7,7 @@
 #[cfg(test)]
 mod bytes;
 #[cfg(test)]
-mod history;
-#[cfg(test)]
 mod jobs;
-#[cfg(test)]
-mod sources;
 #[cfg(test)]
 mod stopped;
 #[cfg(test)]

@@ -1,5 +1,0 @@
-use Rattle.core_tests.proofs.Sourced.{two_adds_is}
-use Rattle.core_tests.proofs.sources.two_adds.Goals as goal
-
-pub with_sources-requires-clause-sources : goal.with_sources-requires-clause-sources
-with_sources-requires-clause-sources c = rw (c.in_ok-shape.ensures, c.in_ok-acts.ensures.items, c.in_ok-sources.ensures.items) two_adds_is

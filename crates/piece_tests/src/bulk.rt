@@ -1,10 +1,8 @@
 //! The set whose calls carry many keys, in one thread and in several.
 
-use crate::numbers::next_number;
-use crate::script::{Script, Served, first_wrong, first_wrong_of};
+use crate::script::{Served, first_wrong};
 use bulk_calls::{BulkCall, BulkKind, BulkOp, BulkSet, Replies, in_batch_order};
 use std::alloc::{AllocError, Global};
-use std::collections::BTreeSet;
 use std::test::Fail;
 use std::thread::Threads;
 use test_rows::all_hold;
@@ -104,35 +102,6 @@ fn push_replies(words: &mut String, replies: &[Replies]) -> Result<(), AllocErro
     Ok(())
 }
 
-impl Served for BulkSet {
-    type Operation = BulkOp;
-
-    fn empty(alloc: Global) -> Result<BulkSet, AllocError> {
-        BulkSet::new(alloc)
-    }
-
-    fn serve<R: Threads + Sync>(
-        self,
-        rt: &R,
-        alloc: Global,
-        threads: usize,
-        operations: &[BulkOp],
-        words: &mut String,
-    ) -> Result<BulkSet, AllocError> {
-        if operations.len() > 32 {
-            return Ok(self);
-        }
-        let calls = in_batch_order(alloc, operations)?;
-        let (next, replies) = if threads == 0 {
-            self.batch(rt, alloc, &calls)?
-        } else {
-            self.batch_in_threads(rt, alloc, &calls, threads)?
-        };
-        push_replies(words, &replies)?;
-        Ok(next)
-    }
-}
-
 /// Adds a key to an operation that has fewer than 64.
 fn push_key(operation: &mut BulkOp, key: u32) {
     if operation.keys().len() < 64 {
@@ -141,7 +110,10 @@ fn push_key(operation: &mut BulkOp, key: u32) {
 }
 
 /// The operations of a row.
-fn operations_of(alloc: Global, calls: &[(BulkKind, &[u32])]) -> Result<Vec<BulkOp>, AllocError> {
+fn operations_of(
+    alloc: Global,
+    calls: &[(BulkKind, &'static [u32])],
+) -> Result<Vec<BulkOp>, AllocError> {
     let mut operations = Vec::new(alloc);
     for (kind, keys) in calls {
         let mut operation = BulkOp::new(*kind);
@@ -153,147 +125,35 @@ fn operations_of(alloc: Global, calls: &[(BulkKind, &[u32])]) -> Result<Vec<Bulk
     Ok(operations)
 }
 
-/// The script of these rows.
-fn script_of(alloc: Global, rows: &[Row]) -> Result<Script<BulkOp>, AllocError> {
-    let mut script = Script::new(alloc);
-    for (calls, replies) in rows {
-        script.add(operations_of(alloc, calls)?, replies)?;
+impl Served for BulkSet {
+    type Call = (BulkKind, &'static [u32]);
+
+    fn empty(alloc: Global) -> Result<BulkSet, AllocError> {
+        BulkSet::new(alloc)
     }
-    Ok(script)
+
+    fn serve<R: Threads + Sync>(
+        self,
+        rt: &R,
+        alloc: Global,
+        threads: usize,
+        calls: &[(BulkKind, &'static [u32])],
+        words: &mut String,
+    ) -> Result<BulkSet, AllocError> {
+        let operations = operations_of(alloc, calls)?;
+        if operations.len() > 32 {
+            return Ok(self);
+        }
+        let calls = in_batch_order(alloc, &operations)?;
+        let (next, replies) = self.batch_in_threads(rt, alloc, &calls, threads)?;
+        push_replies(words, &replies)?;
+        Ok(next)
+    }
 }
 
 #[test]
 fn threads_make_no_difference(rt: HostRuntime) -> Result<(), Fail> {
-    let alloc = rt.alloc();
-    let scripts = vec![in alloc; script_of(alloc, FEW)?, script_of(alloc, WIDE)?]?;
-    all_hold(first_wrong_of::<BulkSet, _>(&rt, alloc, &scripts)?)
-}
-
-/// An operation with up to 64 keys below 3,000.
-fn random_operation(state: &mut u64) -> BulkOp {
-    let mut operation = BulkOp::new(match next_number(state) % 8 {
-        0 | 1 => FIND,
-        2..=4 => REMOVE,
-        _ => INSERT,
-    });
-    for _ in 0..next_number(state) % 64 + 1 {
-        push_key(&mut operation, next_number(state) % 3000);
-    }
-    operation
-}
-
-/// Up to 32 operations.
-fn random_operations(alloc: Global, state: &mut u64) -> Result<Vec<BulkOp>, AllocError> {
-    let mut operations = Vec::new(alloc);
-    for _ in 0..next_number(state) % 32 + 1 {
-        operations.push(random_operation(state))?;
-    }
-    Ok(operations)
-}
-
-/// What a sorted set of std answers to an operation.
-fn answers_sorted(
-    alloc: Global,
-    keys: &mut BTreeSet<u32>,
-    operation: &BulkOp,
-) -> Result<Vec<bool>, AllocError> {
-    let mut answers = Vec::new(alloc);
-    for key in operation.keys() {
-        let answer = match operation.kind() {
-            BulkKind::Insert => keys.insert(*key)?,
-            BulkKind::Remove => keys.remove(key),
-            BulkKind::Find => keys.contains(key),
-        };
-        answers.push(answer)?;
-    }
-    Ok(answers)
-}
-
-/// What it answers to a batch, in words: to the finds by worker, and then to the other operations.
-fn words_sorted(
-    alloc: Global,
-    keys: &mut BTreeSet<u32>,
-    operations: &[BulkOp],
-) -> Result<String, AllocError> {
-    let mut words = String::new(alloc);
-    for find in [true, false] {
-        for operation in operations {
-            if matches!(operation.kind(), BulkKind::Find) == find {
-                let answers = answers_sorted(alloc, keys, operation)?;
-                let first = words.is_empty();
-                push_answers(&mut words, first, &answers)?;
-            }
-        }
-    }
-    Ok(words)
-}
-
-/// 24 batches that look random, with the answers of the sorted set.
-fn all_random(alloc: Global) -> Result<Script<BulkOp>, AllocError> {
-    let mut script = Script::new(alloc);
-    let mut keys = BTreeSet::new(alloc);
-    let mut state = 20;
-    for _ in 0..24u32 {
-        let operations = random_operations(alloc, &mut state)?;
-        let words = words_sorted(alloc, &mut keys, &operations)?;
-        script.add(operations, words.as_str())?;
-    }
-    Ok(script)
-}
-
-#[test]
-fn random_batches_are_served_as_a_sorted_set_serves_them(rt: HostRuntime) -> Result<(), Fail> {
-    let script = all_random(rt.alloc())?;
-    all_hold(first_wrong::<BulkSet, _>(&rt, rt.alloc(), &script)?)
-}
-
-/// 32 operations of one kind: that of worker w has the 64 keys from 64 w on.
-fn all_keys(alloc: Global, kind: BulkKind) -> Result<Vec<BulkOp>, AllocError> {
-    let mut operations = Vec::new(alloc);
-    for worker in 0..32u32 {
-        let mut operation = BulkOp::new(kind);
-        for place in 0..64u32 {
-            push_key(&mut operation, 64 * worker + place);
-        }
-        operations.push(operation)?;
-    }
-    Ok(operations)
-}
-
-/// 2,048 equal answers in words.
-fn all_answers(alloc: Global, answer: bool) -> Result<String, AllocError> {
-    let mut words = String::new(alloc);
-    for worker in 0..32u32 {
-        push_answers(&mut words, worker == 0, &[answer; 64])?;
-    }
-    Ok(words)
-}
-
-/// The kind of each batch of 2,048 keys, and what every key is answered.
-const FULL: &[(BulkKind, bool)] = &[
-    (FIND, false),
-    (INSERT, true),
-    (INSERT, false),
-    (FIND, true),
-    (REMOVE, true),
-    (FIND, false),
-];
-
-/// These batches.
-fn all_full(alloc: Global) -> Result<Script<BulkOp>, AllocError> {
-    let mut script = Script::new(alloc);
-    for row in FULL {
-        let (kind, answer) = *row;
-        let words = all_answers(alloc, answer)?;
-        script.add(all_keys(alloc, kind)?, words.as_str())?;
-    }
-    Ok(script)
-}
-
-#[test]
-fn a_batch_has_room_for_2048_keys(rt: HostRuntime) -> Result<(), Fail> {
-    let script = all_full(rt.alloc())?;
-    all_hold(first_wrong::<BulkSet, _>(&rt, rt.alloc(), &script)?)
+    all_hold(first_wrong::<BulkSet, _>(&rt, rt.alloc(), &[FEW, WIDE])?)
 }
 
 /// Whether there is one reply, with these answers.

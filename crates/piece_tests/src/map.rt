@@ -1,18 +1,15 @@
-//! The map, in one thread and in several, and beside a sorted list.
-ghost use Rattle.std.specs.Prelude.{◌≤◌, length};
+//! The map, in one thread and in several.
 
-use crate::numbers::next_number;
-use crate::script::{Script, Served, first_wrong, first_wrong_of};
+use crate::script::{Served, first_wrong};
 use crate::words::push_words;
 use batched_map::{MapOp, RankBook, in_batch_order};
-use seq_objects::Reply;
 use std::alloc::{AllocError, Global};
 use std::test::Fail;
 use std::thread::Threads;
 use test_rows::all_hold;
 
 impl Served for RankBook {
-    type Operation = MapOp;
+    type Call = MapOp;
 
     fn empty(alloc: Global) -> Result<RankBook, AllocError> {
         RankBook::new(alloc)
@@ -23,18 +20,14 @@ impl Served for RankBook {
         rt: &R,
         alloc: Global,
         threads: usize,
-        operations: &[MapOp],
+        calls: &[MapOp],
         words: &mut String,
     ) -> Result<RankBook, AllocError> {
-        if operations.len() > 32 {
+        if calls.len() > 32 {
             return Ok(self);
         }
-        let calls = in_batch_order(alloc, operations)?;
-        let (next, replies) = if threads == 0 {
-            self.batch(rt, alloc, &calls)?
-        } else {
-            self.batch_in_threads(rt, alloc, &calls, threads)?
-        };
+        let calls = in_batch_order(alloc, calls)?;
+        let (next, replies) = self.batch_in_threads(rt, alloc, &calls, threads)?;
         push_words(words, &replies)?;
         Ok(next)
     }
@@ -127,150 +120,69 @@ const EDGES: &[Row] = &[
 
 /// A batch of 20 keys, and then one of 18 keys. It has 9 ranges; its indices fall in the last, in the first, in one
 /// between, and past all.
-fn ranges(alloc: Global) -> Result<Script<MapOp>, AllocError> {
-    let mut puts = Vec::new(alloc);
-    for place in 0..20u32 {
-        puts.push(MapOp::Put(10 * place, place))?;
-    }
-    let mut questions = Vec::new(alloc);
-    for place in 1..18u32 {
-        questions.push(MapOp::Rank(10 * place))?;
-    }
-    questions.extend_from_slice(&[
-        MapOp::Nth(19),
-        MapOp::Nth(0),
-        MapOp::Del(105),
-        MapOp::Nth(10),
-        MapOp::Nth(20),
-        MapOp::Del(100),
-    ])?;
-    let asked_again = vec![in alloc; MapOp::Nth(9), MapOp::Nth(10), MapOp::Nth(19)]?;
-    let mut script = Script::new(alloc);
-    script.add(
-        puts,
+const RANGES: &[Row] = &[
+    (
+        &[
+            MapOp::Put(0, 0),
+            MapOp::Put(10, 1),
+            MapOp::Put(20, 2),
+            MapOp::Put(30, 3),
+            MapOp::Put(40, 4),
+            MapOp::Put(50, 5),
+            MapOp::Put(60, 6),
+            MapOp::Put(70, 7),
+            MapOp::Put(80, 8),
+            MapOp::Put(90, 9),
+            MapOp::Put(100, 10),
+            MapOp::Put(110, 11),
+            MapOp::Put(120, 12),
+            MapOp::Put(130, 13),
+            MapOp::Put(140, 14),
+            MapOp::Put(150, 15),
+            MapOp::Put(160, 16),
+            MapOp::Put(170, 17),
+            MapOp::Put(180, 18),
+            MapOp::Put(190, 19),
+        ],
         "empty empty empty empty empty empty empty empty empty empty \
 empty empty empty empty empty empty empty empty empty empty",
-    )?;
-    script.add(
-        questions,
+    ),
+    (
+        &[
+            MapOp::Rank(10),
+            MapOp::Rank(20),
+            MapOp::Rank(30),
+            MapOp::Rank(40),
+            MapOp::Rank(50),
+            MapOp::Rank(60),
+            MapOp::Rank(70),
+            MapOp::Rank(80),
+            MapOp::Rank(90),
+            MapOp::Rank(100),
+            MapOp::Rank(110),
+            MapOp::Rank(120),
+            MapOp::Rank(130),
+            MapOp::Rank(140),
+            MapOp::Rank(150),
+            MapOp::Rank(160),
+            MapOp::Rank(170),
+            MapOp::Nth(19),
+            MapOp::Nth(0),
+            MapOp::Del(105),
+            MapOp::Nth(10),
+            MapOp::Nth(20),
+            MapOp::Del(100),
+        ],
         "1 2 3 4 5 6 7 8 9 10 11 12 13 14 15 16 17 190 0 100 empty 10 empty",
-    )?;
-    script.add(asked_again, "90 110 empty")?;
-    Ok(script)
-}
+    ),
+    (
+        &[MapOp::Nth(9), MapOp::Nth(10), MapOp::Nth(19)],
+        "90 110 empty",
+    ),
+];
 
 #[test]
 fn threads_make_no_difference(rt: HostRuntime) -> Result<(), Fail> {
-    let alloc = rt.alloc();
-    let scripts = vec![in alloc;
-        Script::of(alloc, FEW)?,
-        Script::of(alloc, KEYLESS)?,
-        Script::of(alloc, ORDERED)?,
-        Script::of(alloc, EDGES)?,
-        ranges(alloc)?,
-    ]?;
-    all_hold(first_wrong_of::<RankBook, _>(&rt, alloc, &scripts)?)
-}
-
-/// How many pairs of an ascending list have a lower key.
-fn place_in(pairs: &[(u32, u32)], key: u32) -> usize
-    ensures { result ≤ length pairs.now }
-{
-    for (place, pair) in pairs.iter().enumerate() {
-        if pair.0 >= key {
-            return place;
-        }
-    }
-    pairs.len()
-}
-
-/// What an operation does to a sorted list, and what it replies.
-fn serve_sorted(pairs: &mut Vec<(u32, u32)>, operation: MapOp) -> Result<Reply, AllocError> {
-    let key = operation.key().unwrap_or(0);
-    let place = place_in(pairs, key);
-    let there = place < pairs.len() && pairs[place].0 == key;
-    let old = if there {
-        Reply::Number(u64::from(pairs[place].1))
-    } else {
-        Reply::Empty
-    };
-    match operation {
-        MapOp::Put(_, val) if there => pairs[place] = (key, val),
-        MapOp::Put(_, val) => pairs.insert(place, (key, val))?,
-        MapOp::Del(_) if there => {
-            let _pair = pairs.remove(place);
-        }
-        MapOp::Rank(_) => return Ok(Reply::Number(place as u64)),
-        MapOp::Nth(index) => {
-            return Ok(match pairs.get(index as usize) {
-                Some(pair) => Reply::Number(u64::from(pair.0)),
-                None => Reply::Empty,
-            });
-        }
-        MapOp::Del(_) | MapOp::Get(_) => {}
-    }
-    Ok(old)
-}
-
-/// An operation on one of 200 keys, or on one of the edges.
-fn random_operation(state: &mut u64) -> MapOp {
-    let number = next_number(state);
-    let key = match number % 16 {
-        0 => 4294967295,
-        1 => 0,
-        _ => number / 16 % 200 * 7,
-    };
-    match next_number(state) % 8 {
-        0 | 1 => MapOp::Put(key, number),
-        2 | 3 => MapOp::Del(key),
-        4 => MapOp::Get(key),
-        5 | 6 => MapOp::Rank(key),
-        _ => MapOp::Nth(number % 220),
-    }
-}
-
-/// The operations of 32 workers.
-fn random_operations(alloc: Global, state: &mut u64) -> Result<Vec<MapOp>, AllocError> {
-    let mut operations = Vec::new(alloc);
-    for _ in 0..32u32 {
-        operations.push(random_operation(state))?;
-    }
-    Ok(operations)
-}
-
-/// The words of the sorted list's replies to a batch.
-fn words_sorted(
-    alloc: Global,
-    pairs: &mut Vec<(u32, u32)>,
-    operations: &[MapOp],
-) -> Result<String, AllocError> {
-    let mut words = String::new(alloc);
-    if operations.len() > 32 {
-        return Ok(words);
-    }
-    let mut replies = Vec::new(alloc);
-    for call in &in_batch_order(alloc, operations)? {
-        replies.push(serve_sorted(pairs, call.what)?)?;
-    }
-    push_words(&mut words, &replies)?;
-    Ok(words)
-}
-
-/// A hundred batches that look random, with the replies of the sorted list.
-fn all_random(alloc: Global) -> Result<Script<MapOp>, AllocError> {
-    let mut script = Script::new(alloc);
-    let mut pairs = Vec::new(alloc);
-    let mut state = 46;
-    for _ in 0..100u32 {
-        let operations = random_operations(alloc, &mut state)?;
-        let words = words_sorted(alloc, &mut pairs, &operations)?;
-        script.add(operations, words.as_str())?;
-    }
-    Ok(script)
-}
-
-#[test]
-fn random_batches_are_those_of_a_sorted_list(rt: HostRuntime) -> Result<(), Fail> {
-    let script = all_random(rt.alloc())?;
-    all_hold(first_wrong::<RankBook, _>(&rt, rt.alloc(), &script)?)
+    let lists = [FEW, KEYLESS, ORDERED, EDGES, RANGES];
+    all_hold(first_wrong::<RankBook, _>(&rt, rt.alloc(), &lists)?)
 }

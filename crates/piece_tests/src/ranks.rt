@@ -4,59 +4,51 @@ ghost use Rattle.rank_nodes.specs.Maps.{AllBelow};
 
 use crate::numbers::next_number;
 use rank_tree::RankTree;
-use seq_objects::Reply;
 use std::alloc::{AllocError, Global};
 use std::collections::BTreeMap;
-use std::fmt::Write;
 use std::test::Fail;
 use test_rows::all_hold;
 
-/// A call of a map.
+/// A call of a map, and its answer.
 enum Step {
-    Put(u32, u32),
-    Del(u32),
-    Get(u32),
-    Rank(u32),
-    Nth(u64),
+    Put(u32, u32, Option<u32>),
+    Del(u32, Option<u32>),
+    Get(u32, Option<u32>),
+    Rank(u32, u64),
+    Nth(u64, Option<u32>),
 }
 
-/// What a map answers to a call.
-fn reply_to(map: &mut RankTree, step: &Step) -> Result<Reply, AllocError> {
-    Ok(match step {
-        Step::Put(key, val) => Reply::number_or_empty(map.put(*key, *val)?),
-        Step::Del(key) => Reply::number_or_empty(map.del(*key)),
-        Step::Get(key) => Reply::number_or_empty(map.get(*key)),
-        Step::Rank(key) => Reply::Number(map.rank(*key)),
-        Step::Nth(i) => Reply::number_or_empty(map.nth(*i)),
+/// Whether a map answers the call so.
+fn is_answered(map: &mut RankTree, step: &Step) -> Result<bool, AllocError> {
+    Ok(match *step {
+        Step::Put(key, val, old) => map.put(key, val)? == old,
+        Step::Del(key, old) => map.del(key) == old,
+        Step::Get(key, val) => map.get(key) == val,
+        Step::Rank(key, below) => map.rank(key) == below,
+        Step::Nth(i, key) => map.nth(i) == key,
     })
 }
 
-/// Makes the calls, and appends the answers, how many keys there then are, and how deep the map is.
-fn push_answers(words: &mut String, map: &mut RankTree, steps: &[Step]) -> Result<(), AllocError> {
+/// Whether it answers these calls so.
+fn are_answered(map: &mut RankTree, steps: &[Step]) -> Result<bool, AllocError> {
     for step in steps {
-        let reply = reply_to(map, step)?;
-        write!(words, "{reply} ")?;
-    }
-    write!(words, "len {} depth {};", map.len(), map.depth())?;
-    Ok(())
-}
-
-/// Appends the keys of a map by their indices.
-fn push_keys(words: &mut String, map: &RankTree) -> Result<(), AllocError> {
-    for i in 0..map.len() {
-        if let Some(key) = map.nth(i) {
-            write!(words, " {key}")?;
+        if !is_answered(map, step)? {
+            return Ok(false);
         }
     }
-    Ok(())
+    Ok(true)
 }
 
-/// Appends the keys of both sides of a cut.
-fn push_sides(words: &mut String, low: &RankTree, high: &RankTree) -> Result<(), AllocError> {
-    push_keys(words, low)?;
-    words.push_str(" |")?;
-    push_keys(words, high)?;
-    words.push('\n')
+/// Whether a map has just these keys, by their indices.
+fn has_just(map: &RankTree, keys: &[u32]) -> bool {
+    let mut i = 0u64;
+    for key in keys {
+        if map.nth(i) != Some(*key) {
+            return false;
+        }
+        i = i.saturating_add(1);
+    }
+    map.len() == i
 }
 
 /// The two sides of a cut, which can be joined again.
@@ -67,92 +59,96 @@ fn cut(map: RankTree, key: u32) -> Result<(RankTree, RankTree), AllocError>
     Ok(sides)
 }
 
-/// Cuts a map, appends the keys of both sides, and joins them again.
-fn rejoined(words: &mut String, map: RankTree, key: u32) -> Result<RankTree, AllocError> {
-    let (low, high) = cut(map, key)?;
-    push_sides(words, &low, &high)?;
-    RankTree::concat(low, high)
-}
+/// Calls of a map of few keys, a key at which it is then cut, and the keys of both sides.
+type Row = (&'static [Step], u32, &'static [u32], &'static [u32]);
 
-/// The answers of a map that was empty, where it is cut at a key after each row of calls.
-fn words_of(alloc: Global, rows: &[(&[Step], u32)]) -> Result<String, AllocError> {
-    let mut words = String::new(alloc);
+/// The place of the first row in which a map that was empty answers otherwise, or has other sides, if there is one. After
+/// each cut the sides are joined again.
+fn first_wrong(alloc: Global, rows: &[Row]) -> Result<Option<usize>, AllocError> {
     let mut map = RankTree::new(alloc);
-    for (steps, key) in rows {
-        push_answers(&mut words, &mut map, steps)?;
-        map = rejoined(&mut words, map, *key)?;
+    for (place, row) in rows.iter().enumerate() {
+        let (steps, key, below, above) = *row;
+        let answered = are_answered(&mut map, steps)? && map.depth() == 0;
+        let (low, high) = cut(map, key)?;
+        let apart = has_just(&low, below) && has_just(&high, above);
+        map = RankTree::concat(low, high)?;
+        if !answered || !apart {
+            return Ok(Some(place));
+        }
     }
-    Ok(words)
+    Ok(None)
 }
 
 /// A map of four keys, which is asked for keys that are there and not there.
-const FOUR: &[(&[Step], u32)] = &[
-    (&[], 20),
+const FOUR: &[Row] = &[
+    (&[], 20, &[], &[]),
     (
         &[
-            Step::Put(30, 3),
-            Step::Put(10, 1),
-            Step::Put(20, 2),
-            Step::Put(40, 4),
-            Step::Put(20, 9),
-            Step::Get(20),
-            Step::Get(25),
-            Step::Rank(20),
-            Step::Rank(25),
-            Step::Nth(1),
-            Step::Nth(4),
+            Step::Put(30, 3, None),
+            Step::Put(10, 1, None),
+            Step::Put(20, 2, None),
+            Step::Put(40, 4, None),
+            Step::Put(20, 9, Some(2)),
+            Step::Get(20, Some(9)),
+            Step::Get(25, None),
+            Step::Rank(20, 1),
+            Step::Rank(25, 2),
+            Step::Nth(1, Some(20)),
+            Step::Nth(4, None),
         ],
         20,
+        &[10],
+        &[20, 30, 40],
     ),
-    (&[Step::Del(20), Step::Del(20)], 0),
+    (
+        &[Step::Del(20, Some(9)), Step::Del(20, None)],
+        0,
+        &[],
+        &[10, 30, 40],
+    ),
 ];
-
-/// Its answers.
-const FOUR_ANSWERS: &str = "len 0 depth 0; |
-empty empty empty empty 2 9 empty 1 2 20 empty len 4 depth 0; 10 | 20 30 40
-9 empty len 3 depth 0; | 10 30 40
-";
 
 #[test]
 fn a_map_is_cut_and_joined(rt: HostRuntime) -> Result<(), Fail> {
-    assert!(rt; words_of(rt.alloc(), FOUR)?.as_str() == FOUR_ANSWERS);
-    Ok(())
+    all_hold(first_wrong(rt.alloc(), FOUR)?)
 }
 
 /// A map of the least key and the greatest.
-const EDGES: &[(&[Step], u32)] = &[
+const EDGES: &[Row] = &[
     (
         &[
-            Step::Rank(4294967295),
-            Step::Nth(0),
-            Step::Put(4294967295, 0),
-            Step::Put(0, 4294967295),
-            Step::Rank(0),
-            Step::Rank(4294967295),
-            Step::Nth(0),
-            Step::Nth(1),
-            Step::Nth(2),
-            Step::Nth(18446744073709551615),
-            Step::Get(0),
-            Step::Get(4294967295),
+            Step::Rank(4294967295, 0),
+            Step::Nth(0, None),
+            Step::Put(4294967295, 0, None),
+            Step::Put(0, 4294967295, None),
+            Step::Rank(0, 0),
+            Step::Rank(4294967295, 1),
+            Step::Nth(0, Some(0)),
+            Step::Nth(1, Some(4294967295)),
+            Step::Nth(2, None),
+            Step::Nth(18446744073709551615, None),
+            Step::Get(0, Some(4294967295)),
+            Step::Get(4294967295, Some(0)),
         ],
         0,
+        &[],
+        &[0, 4294967295],
     ),
-    (&[], 4294967295),
-    (&[Step::Del(4294967295), Step::Del(0)], 0),
+    (&[], 4294967295, &[0], &[4294967295]),
+    (
+        &[
+            Step::Del(4294967295, Some(0)),
+            Step::Del(0, Some(4294967295)),
+        ],
+        0,
+        &[],
+        &[],
+    ),
 ];
-
-/// Its answers.
-const EDGES_ANSWERS: &str =
-    "0 empty empty empty 0 1 0 4294967295 empty empty 4294967295 0 len 2 depth 0; | 0 4294967295
-len 2 depth 0; 0 | 4294967295
-0 4294967295 len 0 depth 0; |
-";
 
 #[test]
 fn the_least_key_and_the_greatest(rt: HostRuntime) -> Result<(), Fail> {
-    assert!(rt; words_of(rt.alloc(), EDGES)?.as_str() == EDGES_ANSWERS);
-    Ok(())
+    all_hold(first_wrong(rt.alloc(), EDGES)?)
 }
 
 /// Puts the keys 0, 5, .. 99,995. The first that was there, if there is one.

@@ -56,19 +56,3 @@ module _ (first n : ℕ) (book : List (List Entry)) (calls : List Call) (from : 
         (each_so (λ k. first ≤ k) (λ leaf. AllByRecursion (λ other. leaf ≢ other) (map (λ (e : Entry). e.leaf) (flat book))) (λ leaf le. new_leaf first leaf (flat book) le below.leaves) (range_with_len first n) (range_from first n first (omega arith)));
     most = let m = many in let c = below.count in omega (arith, m, c, low, few);
   }
-
-  higher : (entries : List Entry) → AllByRecursion (λ (e : Entry). e.leaf < first) entries → AllByRecursion (λ (e : Entry). e.leaf < first + 32) entries
-  higher entries each = each_so (λ (e : Entry). e.leaf < first) (λ (e : Entry). e.leaf < first + 32) (λ e less. omega (arith, less)) entries each
-
-  pub below_after : (batch : List Entry) → IsServiceOf book calls batch → IsBelow (first + 32) (book ++ batch ∷ [])
-  below_after batch is = record {
-    leaves = subst (AllByRecursion (λ (e : Entry). e.leaf < first + 32)) (sym (flat_append book batch)) (each_append (λ (e : Entry). e.leaf < first + 32) (flat book) batch (higher (flat book) below.leaves)
-        (each_unmapped call_in (λ (c : Call). c.leaf < first + 32) batch (each_same (λ (c : Call). c.leaf < first + 32) calls (calls_in batch) is.same
-        (each_unmapped (λ (c : Call). c.leaf) (λ leaf. leaf < first + 32) calls (subst (AllByRecursion (λ leaf. leaf < first + 32)) (sym from.leaves) (range_below first n (first + 32) (omega (arith, few))))))));
-    count =
-        let long = length_book book batch in
-        let as_many : length batch ≡ length calls = sym (length_calls batch) ∙ length_same calls (calls_in batch) is.same in
-        let m = many in
-        let c = below.count in
-        omega (arith, long, as_many, m, c, few);
-  }

@@ -1,10 +1,16 @@
 //! The counter.
 
-use crate::batch::words_of;
 use batched_counter::Counter;
-use seq_objects::{Call, Op, serve_batch};
+use seq_objects::{Call, Op, Reply, serve_batch};
 use std::alloc::{AllocError, Global};
 use std::test::Fail;
+
+/// The sums so far.
+const SUMS: &[Reply] = &[
+    Reply::Number(7),
+    Reply::Number(4294967302),
+    Reply::Number(4294967302),
+];
 
 /// Whether the additions of a batch reply the sums so far.
 fn are_sums(alloc: Global) -> Result<bool, AllocError> {
@@ -26,7 +32,7 @@ fn are_sums(alloc: Global) -> Result<bool, AllocError> {
         },
     ];
     let (_, replies) = serve_batch(alloc, Counter::new(alloc)?, &calls)?;
-    Ok(words_of(alloc, &replies)?.as_str() == "7 4294967302 4294967302")
+    Ok(replies.as_slice() == SUMS)
 }
 
 #[test]

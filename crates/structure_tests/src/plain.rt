@@ -10,54 +10,54 @@ use std::test::Fail;
 use test_rows::all_hold;
 
 /// One row an operation, with its reply after the rows before it.
-const CALLS: &[(Op, &str)] = &[
-    (Op::CounterAdd(0, 4294967295), "4294967295"),
-    (Op::CounterAdd(0, 2), "4294967297"),
-    (Op::Push(0, 7), "ok"),
-    (Op::Pop(0), "7"),
-    (Op::Pop(0), "empty"),
-    (Op::TreeInsert(0, 5), "yes"),
-    (Op::TreeFind(0, 5), "yes"),
-    (Op::TreeNext(0, 4), "5"),
-    (Op::TreeRemove(0, 5), "yes"),
-    (Op::PqInsert(0, 9), "ok"),
-    (Op::PqTake(0), "9"),
+const CALLS: &[(Op, Reply)] = &[
+    (Op::CounterAdd(0, 4294967295), Reply::Number(4294967295)),
+    (Op::CounterAdd(0, 2), Reply::Number(4294967297)),
+    (Op::Push(0, 7), Reply::Unit),
+    (Op::Pop(0), Reply::Number(7)),
+    (Op::Pop(0), Reply::Empty),
+    (Op::TreeInsert(0, 5), Reply::Yes),
+    (Op::TreeFind(0, 5), Reply::Yes),
+    (Op::TreeNext(0, 4), Reply::Number(5)),
+    (Op::TreeRemove(0, 5), Reply::Yes),
+    (Op::PqInsert(0, 9), Reply::Unit),
+    (Op::PqTake(0), Reply::Number(9)),
 ];
 
 /// Two objects of each kind, in turn.
-const TWO_OF_EACH: &[(Op, &str)] = &[
-    (Op::CounterAdd(1, 5), "5"),
-    (Op::CounterAdd(4294967295, 7), "7"),
-    (Op::CounterAdd(0, 1), "1"),
-    (Op::CounterAdd(1, 4294967295), "4294967300"),
-    (Op::CounterAdd(4294967295, 0), "7"),
-    (Op::Push(1, 10), "ok"),
-    (Op::Push(2, 20), "ok"),
-    (Op::Pop(1), "10"),
-    (Op::Pop(1), "empty"),
-    (Op::Pop(2), "20"),
-    (Op::TreeInsert(1, 5), "yes"),
-    (Op::TreeInsert(2, 9), "yes"),
-    (Op::TreeFind(2, 5), "no"),
-    (Op::TreeNext(1, 0), "5"),
-    (Op::TreeRemove(1, 9), "no"),
-    (Op::TreeRemove(2, 9), "yes"),
-    (Op::PqInsert(1, 3), "ok"),
-    (Op::PqInsert(2, 2), "ok"),
-    (Op::PqTake(1), "3"),
-    (Op::PqTake(2), "2"),
+const TWO_OF_EACH: &[(Op, Reply)] = &[
+    (Op::CounterAdd(1, 5), Reply::Number(5)),
+    (Op::CounterAdd(4294967295, 7), Reply::Number(7)),
+    (Op::CounterAdd(0, 1), Reply::Number(1)),
+    (Op::CounterAdd(1, 4294967295), Reply::Number(4294967300)),
+    (Op::CounterAdd(4294967295, 0), Reply::Number(7)),
+    (Op::Push(1, 10), Reply::Unit),
+    (Op::Push(2, 20), Reply::Unit),
+    (Op::Pop(1), Reply::Number(10)),
+    (Op::Pop(1), Reply::Empty),
+    (Op::Pop(2), Reply::Number(20)),
+    (Op::TreeInsert(1, 5), Reply::Yes),
+    (Op::TreeInsert(2, 9), Reply::Yes),
+    (Op::TreeFind(2, 5), Reply::No),
+    (Op::TreeNext(1, 0), Reply::Number(5)),
+    (Op::TreeRemove(1, 9), Reply::No),
+    (Op::TreeRemove(2, 9), Reply::Yes),
+    (Op::PqInsert(1, 3), Reply::Unit),
+    (Op::PqInsert(2, 2), Reply::Unit),
+    (Op::PqTake(1), Reply::Number(3)),
+    (Op::PqTake(2), Reply::Number(2)),
 ];
 
 /// Operations on objects that no operation has called before, and on such an object after an addition of 0.
-const UNCALLED: &[(Op, &str)] = &[
-    (Op::Pop(9), "empty"),
-    (Op::TreeFind(9, 1), "no"),
-    (Op::TreeNext(9, 0), "empty"),
-    (Op::TreeRemove(9, 1), "no"),
-    (Op::PqTake(9), "empty"),
-    (Op::CounterAdd(9, 0), "0"),
-    (Op::CounterAdd(9, 3), "3"),
-    (Op::CounterAdd(8, 0), "0"),
+const UNCALLED: &[(Op, Reply)] = &[
+    (Op::Pop(9), Reply::Empty),
+    (Op::TreeFind(9, 1), Reply::No),
+    (Op::TreeNext(9, 0), Reply::Empty),
+    (Op::TreeRemove(9, 1), Reply::No),
+    (Op::PqTake(9), Reply::Empty),
+    (Op::CounterAdd(9, 0), Reply::Number(0)),
+    (Op::CounterAdd(9, 3), Reply::Number(3)),
+    (Op::CounterAdd(8, 0), Reply::Number(0)),
 ];
 
 /// Serves one operation where its counter is far from its end. The match has two arms alike, so that the range
@@ -73,18 +73,25 @@ fn serve_one(plain: &mut Plain, op: Op) -> Result<Reply, AllocError>
 }
 
 /// The place of the first call with another reply, if there is one.
-fn first_wrong(alloc: Global, calls: &[(Op, &str)]) -> Result<Option<usize>, AllocError>
-    requires { length calls.now < 1000 }
+fn first_other_reply(plain: &mut Plain, calls: &[(Op, Reply)]) -> Result<Option<usize>, AllocError>
+    requires few { length calls.now < 1000 }
+    requires opening { AreAtMost 0 (store_in plain.old) }
 {
-    let mut plain = Plain::new(alloc);
     for (place, call) in calls.iter().enumerate() {
         let (op, reply) = *call;
-        let replied = serve_one(&mut plain, op)?;
-        if format!(in alloc; "{replied}")?.as_str() != reply {
+        if serve_one(plain, op)? != reply {
             return Ok(Some(place));
         }
     }
     Ok(None)
+}
+
+/// The same of objects that no operation has called before.
+fn first_wrong(alloc: Global, calls: &[(Op, Reply)]) -> Result<Option<usize>, AllocError>
+    requires { length calls.now < 1000 }
+{
+    let mut plain = Plain::new(alloc);
+    first_other_reply(&mut plain, calls)
 }
 
 #[test]
@@ -133,7 +140,7 @@ fn replies_are_written_in_words(rt: HostRuntime) -> Result<(), Fail> {
 }
 
 /// Workers and operations in batch order.
-const IN_ORDER: [(u32, Op); 17] = [
+const IN_ORDER: &[(u32, Op)] = &[
     (14, Op::CounterAdd(0, 1)),
     (15, Op::CounterAdd(0, 0)),
     (9, Op::CounterAdd(1, 2)),
@@ -161,13 +168,13 @@ fn call_of((worker, op): (u32, Op)) -> Call {
     }
 }
 
-/// The first two places whose calls are not in the order of the places, if there are any.
-fn first_misplaced() -> Option<(usize, usize)> {
-    for first in 0..17 {
-        let a = call_of(IN_ORDER[first]);
-        for second in 0..17 {
-            if comes_first(&a, &call_of(IN_ORDER[second])) != (first < second) {
-                return Some((first, second));
+/// The first place whose call is not behind those of the places before it, and before those of the others, if there is
+/// one.
+fn first_misplaced() -> Option<usize> {
+    for (first, a) in IN_ORDER.iter().enumerate() {
+        for (second, b) in IN_ORDER.iter().enumerate() {
+            if comes_first(&call_of(*a), &call_of(*b)) != (first < second) {
+                return Some(first);
             }
         }
     }
@@ -175,8 +182,8 @@ fn first_misplaced() -> Option<(usize, usize)> {
 }
 
 #[test]
-fn calls_of_one_batch_have_an_order(rt: HostRuntime) {
-    assert!(rt; first_misplaced().is_none());
+fn calls_of_one_batch_have_an_order() -> Result<(), Fail> {
+    all_hold(first_misplaced())
 }
 
 #[test]

@@ -2,7 +2,7 @@
 
 use crate::batch::{Row, first_wrong};
 use batched_pq::{Heap, Queue};
-use seq_objects::Op;
+use seq_objects::{Op, Reply};
 use std::alloc::{AllocError, Global};
 use std::test::Fail;
 use test_rows::all_hold;
@@ -11,7 +11,7 @@ use test_rows::all_hold;
 const ROWS: &[Row] = &[
     (
         &[Op::PqTake(0), Op::PqTake(0), Op::PqTake(0)],
-        "empty empty empty",
+        &[Reply::Empty, Reply::Empty, Reply::Empty],
     ),
     (
         &[
@@ -19,11 +19,11 @@ const ROWS: &[Row] = &[
             Op::PqInsert(0, 9),
             Op::PqInsert(0, 4294967295),
         ],
-        "ok ok 9",
+        &[Reply::Unit, Reply::Unit, Reply::Number(9)],
     ),
     (
         &[Op::PqInsert(0, 7), Op::PqInsert(0, 3), Op::PqInsert(0, 3)],
-        "ok ok ok",
+        &[Reply::Unit, Reply::Unit, Reply::Unit],
     ),
     (
         &[
@@ -32,11 +32,16 @@ const ROWS: &[Row] = &[
             Op::PqInsert(0, 3),
             Op::PqTake(0),
         ],
-        "ok 3 3 3",
+        &[
+            Reply::Unit,
+            Reply::Number(3),
+            Reply::Number(3),
+            Reply::Number(3),
+        ],
     ),
     (
         &[Op::PqTake(0), Op::PqTake(0), Op::PqTake(0)],
-        "7 4294967295 empty",
+        &[Reply::Number(7), Reply::Number(4294967295), Reply::Empty],
     ),
 ];
 

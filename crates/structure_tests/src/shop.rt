@@ -1,30 +1,27 @@
 //! The shop, which serves batches over all structures.
-ghost use Rattle.std.specs.Prelude.{◌+◌, ◌<◌, ◌≤◌, length, IfOk};
+ghost use Rattle.std.specs.Prelude.{◌<◌, ◌≤◌, length, IfOk};
 ghost use Rattle.seq_objects.specs.Pieces.{AllMeet};
 ghost use Rattle.launch_batch.specs.Pieces.{Meets};
-ghost use Rattle.structure_tests.specs.Shops.{AreFrom, IsBelow};
+ghost use Rattle.structure_tests.specs.Shops.{AreFrom};
 
-use crate::batch::Row;
 use batch_history::Batch;
-use launch_batch::{PieceIn, PieceOut, Shop, run_piece, serve};
-use seq_objects::{Call, Op};
+use launch_batch::{PieceIn, PieceOut, Shop, run_piece};
+use seq_objects::{Call, Op, Reply};
 use std::alloc::{AllocError, Global};
-use std::fmt::Write;
 use std::test::Fail;
 use test_rows::all_hold;
 
-/// The calls of workers 0, 1, .., at consecutive leaves.
-fn calls_from(alloc: Global, first: u32, ops: &[Op]) -> Result<Vec<Call>, AllocError>
-    requires low { first ≤ 1000 }
-    requires few { length ops.now ≤ 32 }
-    ensures { IfOk result (λ v. AreFrom first (length ops.now) v.items) }
+/// The calls of workers 0, 1, .. at the leaves 0, 1, ...
+fn calls_from(alloc: Global, ops: &[Op]) -> Result<Vec<Call>, AllocError>
+    requires { length ops.now ≤ 32 }
+    ensures { IfOk result (λ v. AreFrom 0 (length ops.now) v.items) }
 {
     let mut calls = Vec::with_capacity(alloc, ops.len())?;
     let mut worker = 0;
     for op in ops {
         calls.push(Call {
             worker,
-            leaf: first + worker,
+            leaf: worker,
             op: *op,
         })?;
         worker += 1;
@@ -32,101 +29,29 @@ fn calls_from(alloc: Global, first: u32, ops: &[Op]) -> Result<Vec<Call>, AllocE
     Ok(calls)
 }
 
-/// The shop after a batch of these operations.
-fn serve_ops(alloc: Global, shop: Shop, first: u32, ops: &[Op]) -> Result<Shop, AllocError>
-    requires some { 0 < length ops.now }
-    requires low { first ≤ 1000 }
-    requires few { length ops.now ≤ 32 }
-    requires below { IsBelow first shop }
-    ensures { IfOk result (λ next. IsBelow (first + 32) next) }
-{
-    let mut calls = calls_from(alloc, first, ops)?;
-    let next = serve(alloc, shop, &mut calls)?;
-    Ok(next)
-}
+/// The operations of workers 0, 1, .., the places of the pieces of a first batch of them, and its entries: the worker and
+/// the reply of each.
+type Row = (&'static [Op], &'static [u32], &'static [(u32, Reply)]);
 
-/// Each entry's worker and reply.
-fn words_of(alloc: Global, batch: &Batch) -> Result<String, AllocError> {
-    let mut words = String::new(alloc);
-    for entry in batch.entries() {
-        if !words.is_empty() {
-            words.push(' ')?;
-        }
-        write!(words, "{}:{}", entry.worker, entry.reply)?;
-    }
-    Ok(words)
-}
-
-/// Each entry's worker and reply, of the last batch that a shop has served.
-fn last_words(alloc: Global, shop: &Shop) -> Result<String, AllocError> {
-    match shop.history().batches().last() {
-        None => Ok(String::new(alloc)),
-        Some(batch) => words_of(alloc, batch),
-    }
-}
-
-/// The place of the first batch that has other entries, if there is one.
-fn first_wrong(alloc: Global, rows: &[Row]) -> Result<Option<usize>, AllocError> {
-    let mut shop = Shop::new(alloc)?;
-    let mut first = 0;
-    for (place, row) in rows.iter().enumerate() {
-        let (ops, wanted) = *row;
-        if ops.is_empty() || ops.len() > 32 || first > 1000 {
-            return Ok(Some(place));
-        }
-        shop = serve_ops(alloc, shop, first, ops)?;
-        first += 32;
-        if last_words(alloc, &shop)?.as_str() != wanted {
-            return Ok(Some(place));
+/// Whether pieces have these places.
+fn are_at(pieces: &[PieceIn], places: &[u32]) -> bool {
+    for (at, piece) in pieces.iter().enumerate() {
+        if places.get(at) != Some(&piece.place()) {
+            return false;
         }
     }
-    Ok(None)
+    pieces.len() == places.len()
 }
 
-/// The operations of workers 0, 1, .. in each batch, and its entries: the worker and the reply of each.
-const ROWS: &[Row] = &[
-    (
-        &[
-            Op::Pop(0),
-            Op::Pop(0),
-            Op::Pop(0),
-            Op::Pop(0),
-            Op::Push(0, 10),
-            Op::Push(0, 20),
-        ],
-        "4:ok 5:ok 0:20 1:10 2:empty 3:empty",
-    ),
-    (
-        &[
-            Op::TreeInsert(0, 10),
-            Op::TreeInsert(0, 20),
-            Op::TreeInsert(0, 30),
-        ],
-        "0:yes 1:yes 2:yes",
-    ),
-    (
-        &[
-            Op::TreeNext(0, 10),
-            Op::TreeInsert(0, 15),
-            Op::TreeNext(0, 30),
-        ],
-        "0:20 2:empty 1:yes",
-    ),
-    (
-        &[
-            Op::TreeNext(0, 0),
-            Op::TreeNext(0, 10),
-            Op::TreeNext(0, 15),
-            Op::TreeNext(0, 20),
-            Op::TreeNext(0, 30),
-        ],
-        "0:10 1:15 2:20 3:30 4:empty",
-    ),
-];
-
-#[test]
-fn batches_have_these_entries(rt: HostRuntime) -> Result<(), Fail> {
-    all_hold(first_wrong(rt.alloc(), ROWS)?)
+/// Whether a batch has these entries.
+fn has_entries(batch: &Batch, entries: &[(u32, Reply)]) -> bool {
+    for (at, entry) in batch.entries().iter().enumerate() {
+        match entries.get(at) {
+            Some((worker, reply)) if entry.worker == *worker && entry.reply == *reply => {}
+            _ => return false,
+        }
+    }
+    batch.entries().len() == entries.len()
 }
 
 /// The outs of pieces that are run from the last to the first, in the order of the pieces.
@@ -145,30 +70,50 @@ fn run_backwards(alloc: Global, pieces: Vec<PieceIn>) -> Result<Vec<PieceOut>, A
     }
 }
 
-/// The places of the pieces of a first batch, and its entries, where the pieces are run from the last to the first.
-fn serve_backwards(alloc: Global, ops: &[Op]) -> Result<(String, String), AllocError>
+/// Whether a first batch has these places and entries, where its pieces are run from the last to the first.
+fn serve_backwards(
+    alloc: Global,
+    ops: &[Op],
+    places: &[u32],
+    entries: &[(u32, Reply)],
+) -> Result<bool, AllocError>
     requires some { 0 < length ops.now }
     requires few { length ops.now ≤ 32 }
 {
     let shop = Shop::new(alloc)?;
-    let calls = calls_from(alloc, 0, ops)?;
+    let calls = calls_from(alloc, ops)?;
     let (opened, pieces) = shop.begin(alloc, calls)?;
-    let mut places = String::new(alloc);
-    for piece in &pieces {
-        write!(places, "{} ", piece.place())?;
-    }
+    let are_at = are_at(&pieces, places);
     let outs = run_backwards(alloc, pieces)?;
     let (shop, batch) = opened.end(alloc, outs)?;
     let kept = shop.into_history().batches().len();
-    write!(places, "in batch {kept}")?;
-    let words = words_of(alloc, &batch)?;
-    Ok((places, words))
+    let has_entries = has_entries(&batch, entries);
+    Ok(are_at & has_entries & (kept == 1))
 }
 
-/// A batch of all kinds, one of 32 takes, and batches on several objects: pops of two empty stacks, 17 additions to a
+/// Pushes before pops, a batch of all kinds, one of 32 takes, and batches on several objects: pops of two empty stacks, 17 additions to a
 /// counter and one to another, takes of two queues, a tree and a stack of one number, two stacks whose pieces go
 /// together, and 32 objects.
-const BACKWARDS: &[(&[Op], &str, &str)] = &[
+const BACKWARDS: &[Row] = &[
+    (
+        &[
+            Op::Pop(0),
+            Op::Pop(0),
+            Op::Pop(0),
+            Op::Pop(0),
+            Op::Push(0, 10),
+            Op::Push(0, 20),
+        ],
+        &[16, 17],
+        &[
+            (4, Reply::Unit),
+            (5, Reply::Unit),
+            (0, Reply::Number(20)),
+            (1, Reply::Number(10)),
+            (2, Reply::Empty),
+            (3, Reply::Empty),
+        ],
+    ),
     (
         &[
             Op::PqTake(0),
@@ -180,20 +125,60 @@ const BACKWARDS: &[(&[Op], &str, &str)] = &[
             Op::Push(0, 3),
             Op::CounterAdd(0, 2),
         ],
-        "0 1 16 32 48 49 50 51 52 53 54 55 in batch 1",
-        "3:5 7:7 6:ok 2:3 1:no 4:yes 5:ok 0:9",
+        &[0, 1, 16, 32, 48, 49, 50, 51, 52, 53, 54, 55],
+        &[
+            (3, Reply::Number(5)),
+            (7, Reply::Number(7)),
+            (6, Reply::Unit),
+            (2, Reply::Number(3)),
+            (1, Reply::No),
+            (4, Reply::Yes),
+            (5, Reply::Unit),
+            (0, Reply::Number(9)),
+        ],
     ),
     (
         &[Op::PqTake(0); 32],
-        "48 49 50 51 52 53 54 55 in batch 1",
-        "0:empty 1:empty 2:empty 3:empty 4:empty 5:empty 6:empty 7:empty 8:empty 9:empty \
-10:empty 11:empty 12:empty 13:empty 14:empty 15:empty 16:empty 17:empty 18:empty 19:empty 20:empty \
-21:empty 22:empty 23:empty 24:empty 25:empty 26:empty 27:empty 28:empty 29:empty 30:empty 31:empty",
+        &[48, 49, 50, 51, 52, 53, 54, 55],
+        &[
+            (0, Reply::Empty),
+            (1, Reply::Empty),
+            (2, Reply::Empty),
+            (3, Reply::Empty),
+            (4, Reply::Empty),
+            (5, Reply::Empty),
+            (6, Reply::Empty),
+            (7, Reply::Empty),
+            (8, Reply::Empty),
+            (9, Reply::Empty),
+            (10, Reply::Empty),
+            (11, Reply::Empty),
+            (12, Reply::Empty),
+            (13, Reply::Empty),
+            (14, Reply::Empty),
+            (15, Reply::Empty),
+            (16, Reply::Empty),
+            (17, Reply::Empty),
+            (18, Reply::Empty),
+            (19, Reply::Empty),
+            (20, Reply::Empty),
+            (21, Reply::Empty),
+            (22, Reply::Empty),
+            (23, Reply::Empty),
+            (24, Reply::Empty),
+            (25, Reply::Empty),
+            (26, Reply::Empty),
+            (27, Reply::Empty),
+            (28, Reply::Empty),
+            (29, Reply::Empty),
+            (30, Reply::Empty),
+            (31, Reply::Empty),
+        ],
     ),
     (
         &[Op::Pop(1), Op::Pop(2)],
-        "16 in batch 1",
-        "0:empty 1:empty",
+        &[16],
+        &[(0, Reply::Empty), (1, Reply::Empty)],
     ),
     (
         &[
@@ -216,13 +201,32 @@ const BACKWARDS: &[(&[Op], &str, &str)] = &[
             Op::CounterAdd(0, 1),
             Op::CounterAdd(1, 1),
         ],
-        "0 1 2 3 4 5 6 7 8 in batch 1",
-        "0:1 1:2 2:3 3:4 4:5 5:6 6:7 7:8 8:9 9:10 10:11 11:12 12:13 13:14 14:15 15:16 16:17 17:1",
+        &[0, 1, 2, 3, 4, 5, 6, 7, 8],
+        &[
+            (0, Reply::Number(1)),
+            (1, Reply::Number(2)),
+            (2, Reply::Number(3)),
+            (3, Reply::Number(4)),
+            (4, Reply::Number(5)),
+            (5, Reply::Number(6)),
+            (6, Reply::Number(7)),
+            (7, Reply::Number(8)),
+            (8, Reply::Number(9)),
+            (9, Reply::Number(10)),
+            (10, Reply::Number(11)),
+            (11, Reply::Number(12)),
+            (12, Reply::Number(13)),
+            (13, Reply::Number(14)),
+            (14, Reply::Number(15)),
+            (15, Reply::Number(16)),
+            (16, Reply::Number(17)),
+            (17, Reply::Number(1)),
+        ],
     ),
     (
         &[Op::PqTake(1), Op::PqTake(2)],
-        "48 49 50 51 52 53 54 55 in batch 1",
-        "0:empty 1:empty",
+        &[48, 49, 50, 51, 52, 53, 54, 55],
+        &[(0, Reply::Empty), (1, Reply::Empty)],
     ),
     (
         &[
@@ -231,13 +235,18 @@ const BACKWARDS: &[(&[Op], &str, &str)] = &[
             Op::TreeFind(3, 5),
             Op::Pop(3),
         ],
-        "16 32 in batch 1",
-        "1:ok 3:9 2:no 0:yes",
+        &[16, 32],
+        &[
+            (1, Reply::Unit),
+            (3, Reply::Number(9)),
+            (2, Reply::No),
+            (0, Reply::Yes),
+        ],
     ),
     (
         &[Op::Pop(1), Op::Push(0, 3), Op::Push(1, 7)],
-        "16 in batch 1",
-        "1:ok 2:ok 0:7",
+        &[16],
+        &[(1, Reply::Unit), (2, Reply::Unit), (0, Reply::Number(7))],
     ),
     (
         &[
@@ -274,24 +283,52 @@ const BACKWARDS: &[(&[Op], &str, &str)] = &[
             Op::PqInsert(6, 1),
             Op::PqInsert(7, 1),
         ],
-        "0 16 32 48 49 50 51 52 53 54 55 in batch 1",
-        "0:5 1:6 2:7 3:8 4:9 5:10 6:11 7:12 8:ok 9:ok 10:ok 11:ok 12:ok 13:ok 14:ok 15:ok 16:no 17:no 18:no \
-19:no 20:no 21:no 22:no 23:no 24:ok 25:ok 26:ok 27:ok 28:ok 29:ok 30:ok 31:ok",
+        &[0, 16, 32, 48, 49, 50, 51, 52, 53, 54, 55],
+        &[
+            (0, Reply::Number(5)),
+            (1, Reply::Number(6)),
+            (2, Reply::Number(7)),
+            (3, Reply::Number(8)),
+            (4, Reply::Number(9)),
+            (5, Reply::Number(10)),
+            (6, Reply::Number(11)),
+            (7, Reply::Number(12)),
+            (8, Reply::Unit),
+            (9, Reply::Unit),
+            (10, Reply::Unit),
+            (11, Reply::Unit),
+            (12, Reply::Unit),
+            (13, Reply::Unit),
+            (14, Reply::Unit),
+            (15, Reply::Unit),
+            (16, Reply::No),
+            (17, Reply::No),
+            (18, Reply::No),
+            (19, Reply::No),
+            (20, Reply::No),
+            (21, Reply::No),
+            (22, Reply::No),
+            (23, Reply::No),
+            (24, Reply::Unit),
+            (25, Reply::Unit),
+            (26, Reply::Unit),
+            (27, Reply::Unit),
+            (28, Reply::Unit),
+            (29, Reply::Unit),
+            (30, Reply::Unit),
+            (31, Reply::Unit),
+        ],
     ),
 ];
 
 /// The place of the first batch that has other pieces or entries, if there is one.
-fn first_wrong_backwards(
-    alloc: Global,
-    rows: &[(&[Op], &str, &str)],
-) -> Result<Option<usize>, AllocError> {
+fn first_wrong(alloc: Global, rows: &[Row]) -> Result<Option<usize>, AllocError> {
     for (place, row) in rows.iter().enumerate() {
         let (ops, places, entries) = *row;
         if ops.is_empty() || ops.len() > 32 {
             return Ok(Some(place));
         }
-        let (at, served) = serve_backwards(alloc, ops)?;
-        if at.as_str() != places || served.as_str() != entries {
+        if !serve_backwards(alloc, ops, places, entries)? {
             return Ok(Some(place));
         }
     }
@@ -300,5 +337,5 @@ fn first_wrong_backwards(
 
 #[test]
 fn pieces_may_be_run_backwards(rt: HostRuntime) -> Result<(), Fail> {
-    all_hold(first_wrong_backwards(rt.alloc(), BACKWARDS)?)
+    all_hold(first_wrong(rt.alloc(), BACKWARDS)?)
 }

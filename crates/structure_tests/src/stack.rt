@@ -2,14 +2,14 @@
 
 use crate::batch::{Row, are_of, calls_of, first_wrong};
 use batched_stack::Stack;
-use seq_objects::{Op, serve_batch};
+use seq_objects::{Op, Reply, serve_batch};
 use std::alloc::{AllocError, Global};
 use std::test::Fail;
 use test_rows::all_hold;
 
 /// Pushes before pops, pops of later batches, and pops of an empty stack.
 const ROWS: &[Row] = &[
-    (&[Op::Pop(0), Op::Pop(0)], "empty empty"),
+    (&[Op::Pop(0), Op::Pop(0)], &[Reply::Empty, Reply::Empty]),
     (
         &[
             Op::Pop(0),
@@ -17,12 +17,17 @@ const ROWS: &[Row] = &[
             Op::Push(0, 20),
             Op::Push(0, 30),
         ],
-        "ok ok ok 30",
+        &[Reply::Unit, Reply::Unit, Reply::Unit, Reply::Number(30)],
     ),
-    (&[Op::Push(0, 4294967295)], "ok"),
+    (&[Op::Push(0, 4294967295)], &[Reply::Unit]),
     (
         &[Op::Pop(0), Op::Pop(0), Op::Pop(0), Op::Pop(0)],
-        "4294967295 20 10 empty",
+        &[
+            Reply::Number(4294967295),
+            Reply::Number(20),
+            Reply::Number(10),
+            Reply::Empty,
+        ],
     ),
 ];
 

@@ -1,96 +1,53 @@
 //! The 2-3 tree, and the forest of trees.
 ghost use Rattle.std.specs.Prelude.{◌<◌};
 
-use seq_objects::{Op, Reply};
 use std::alloc::{AllocError, Global};
 use std::collections::BTreeSet;
-use std::fmt::Write;
 use std::test::Fail;
 use tree_forest::{Forest, ForestPool, Remaining};
 use tree23::Tree23;
 
-/// Appends what a tree answers to the operations of a tree, how many keys there then are, and how deep it is.
-fn push_answers(words: &mut String, tree: &mut Tree23, ops: &[Op]) -> Result<(), AllocError> {
-    for op in ops {
-        match *op {
-            Op::TreeInsert(_, key) => write!(words, "{} ", tree.insert(key)?)?,
-            Op::TreeRemove(_, key) => write!(words, "{} ", tree.remove(key))?,
-            Op::TreeFind(_, key) => write!(words, "{} ", tree.find(key))?,
-            Op::TreeNext(_, key) => write!(words, "{} ", Reply::number_or_empty(tree.next(key)))?,
-            _ => {}
+/// Whether a tree that was empty takes the keys 1 to 7, and has them.
+fn is_filled(tree: &mut Tree23) -> Result<bool, AllocError> {
+    for key in 1..8 {
+        if !tree.insert(key)? {
+            return Ok(false);
         }
     }
-    write!(words, "len {} depth {};", tree.len(), tree.depth())?;
-    Ok(())
+    let again = tree.insert(4)?;
+    Ok(!again && tree.find(4) && tree.next(4) == Some(5) && tree.next(7).is_none())
 }
 
-/// Appends the keys of a tree by calls of `next`: all of them but a key 0.
-fn push_keys(words: &mut String, tree: &Tree23) -> Result<(), AllocError> {
-    let mut last = 0;
-    for _ in 0..tree.len() {
-        if let Some(key) = tree.next(last) {
-            write!(words, " {key}")?;
-            last = key;
+/// Whether a tree has just the keys of this range, and no depth that so few need.
+fn has_just(tree: &Tree23, first: u32, last: u32) -> bool
+    requires { 0 < first }
+{
+    for key in first..=last {
+        if tree.next(key - 1) != Some(key) {
+            return false;
         }
     }
-    Ok(())
+    tree.next(0) == Some(first) && tree.next(last).is_none() && tree.depth() <= 3
 }
 
-/// Appends the keys of both sides of a cut.
-fn push_sides(words: &mut String, low: &Tree23, high: &Tree23) -> Result<(), AllocError> {
-    push_keys(words, low)?;
-    words.push_str(" |")?;
-    push_keys(words, high)?;
-    words.push('\n')
+/// Whether a tree gives up the key 4, once, and has no key 8.
+fn is_without_four(tree: &mut Tree23) -> bool {
+    !tree.remove(8) && tree.remove(4) && !tree.find(4) && tree.len() == 6
 }
 
-/// Cuts a tree, appends the keys of both sides, and joins them again.
-fn rejoined(words: &mut String, tree: Tree23, key: u32) -> Result<Tree23, AllocError> {
-    let (low, high) = tree.split_below(key)?;
-    push_sides(words, &low, &high)?;
-    Tree23::concat(low, high)
-}
-
-/// The operations before a cut at 5.
-const BEFORE: &[Op] = &[
-    Op::TreeInsert(0, 1),
-    Op::TreeInsert(0, 2),
-    Op::TreeInsert(0, 3),
-    Op::TreeInsert(0, 4),
-    Op::TreeInsert(0, 5),
-    Op::TreeInsert(0, 6),
-    Op::TreeInsert(0, 7),
-    Op::TreeInsert(0, 4),
-    Op::TreeFind(0, 4),
-    Op::TreeNext(0, 4),
-    Op::TreeNext(0, 7),
-];
-
-/// Those after it, where the sides are joined again.
-const AFTER: &[Op] = &[
-    Op::TreeRemove(0, 8),
-    Op::TreeRemove(0, 4),
-    Op::TreeFind(0, 4),
-];
-
-/// What a tree answers before the cut and after it.
-fn words_of_cut(alloc: Global) -> Result<String, AllocError> {
-    let mut words = String::new(alloc);
+/// Whether a tree of the keys 1 to 7 is cut at 5, and joined again.
+fn is_rejoined(alloc: Global) -> Result<bool, AllocError> {
     let mut tree = Tree23::new(alloc);
-    push_answers(&mut words, &mut tree, BEFORE)?;
-    let mut tree = rejoined(&mut words, tree, 5)?;
-    push_answers(&mut words, &mut tree, &[])?;
-    push_answers(&mut words, &mut tree, AFTER)?;
-    Ok(words)
+    let filled = is_filled(&mut tree)? && tree.len() == 7;
+    let (low, high) = tree.split_below(5)?;
+    let apart = has_just(&low, 1, 4) && has_just(&high, 5, 7);
+    let mut tree = Tree23::concat(low, high)?;
+    Ok(filled && apart && has_just(&tree, 1, 7) && is_without_four(&mut tree))
 }
-
-const CUT: &str =
-    "true true true true true true true false true 5 empty len 7 depth 0; 1 2 3 4 | 5 6 7
-len 7 depth 0;false true false len 6 depth 0;";
 
 #[test]
 fn a_tree_is_cut_and_joined(rt: HostRuntime) -> Result<(), Fail> {
-    assert!(rt; words_of_cut(rt.alloc())?.as_str() == CUT);
+    assert!(rt; is_rejoined(rt.alloc())?);
     Ok(())
 }
 

@@ -2,7 +2,7 @@
 
 use crate::batch::{Row, first_wrong};
 use batched_tree::TreeSet;
-use seq_objects::Op;
+use seq_objects::{Op, Reply};
 use std::test::Fail;
 use test_rows::all_hold;
 
@@ -14,7 +14,7 @@ const ROWS: &[Row] = &[
             Op::TreeInsert(0, 10),
             Op::TreeInsert(0, 20),
         ],
-        "yes yes yes",
+        &[Reply::Yes, Reply::Yes, Reply::Yes],
     ),
     (
         &[
@@ -22,7 +22,7 @@ const ROWS: &[Row] = &[
             Op::TreeInsert(0, 15),
             Op::TreeNext(0, 30),
         ],
-        "20 empty yes",
+        &[Reply::Number(20), Reply::Empty, Reply::Yes],
     ),
     (
         &[
@@ -32,7 +32,13 @@ const ROWS: &[Row] = &[
             Op::TreeNext(0, 15),
             Op::TreeNext(0, 4294967295),
         ],
-        "no 10 15 20 empty",
+        &[
+            Reply::No,
+            Reply::Number(10),
+            Reply::Number(15),
+            Reply::Number(20),
+            Reply::Empty,
+        ],
     ),
     (
         &[
@@ -41,9 +47,12 @@ const ROWS: &[Row] = &[
             Op::TreeFind(0, 15),
             Op::TreeRemove(0, 11),
         ],
-        "yes no yes yes",
+        &[Reply::Yes, Reply::No, Reply::Yes, Reply::Yes],
     ),
-    (&[Op::TreeFind(0, 15), Op::TreeNext(0, 15)], "yes 20"),
+    (
+        &[Op::TreeFind(0, 15), Op::TreeNext(0, 15)],
+        &[Reply::Yes, Reply::Number(20)],
+    ),
 ];
 
 #[test]

@@ -6,6 +6,6 @@ pub loop-op-preserved : goal.loop-op-preserved
 loop-op-preserved c =
     let i = c.loop-op.invariant in
     record {
-      from = rw c.in_ok-push.ensures.items (one_more c.args.first c.loop-op.worker c.loop-op.calls.items _ refl refl i.from);
+      from = rw c.in_ok-push.ensures.items (one_more 0 c.loop-op.worker c.loop-op.calls.items _ refl (omega arith) i.from);
       worker = omega (arith, i.worker);
     }

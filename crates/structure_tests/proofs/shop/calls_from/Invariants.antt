@@ -4,6 +4,6 @@ use Rattle.structure_tests.proofs.shop.calls_from.Given as goal
 
 abbrev pub invariant-loop-op : goal.invariant-loop-op
 invariant-loop-op l = record {
-  from : AreFrom l.first l.worker l.calls.items;
+  from : AreFrom 0 l.worker l.calls.items;
   worker : l.worker ≡ l.op-index;
 }

@@ -1,5 +1,5 @@
 use Rattle.std.proofs.Common.{◌*◌, arith}
-use Rattle.structure_tests.proofs.plain.first_wrong.Goals as goal
+use Rattle.structure_tests.proofs.plain.first_other_reply.Goals as goal
 
 pub loop-place-preserved : goal.loop-place-preserved
 loop-place-preserved c number =

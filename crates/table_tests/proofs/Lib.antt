@@ -1,4 +1,2 @@
 pub mod AddLemmas
 pub mod LaunchLemmas
-pub mod LeafLemmas
-pub mod SourceLemmas

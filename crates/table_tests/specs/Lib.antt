@@ -2,4 +2,3 @@
 pub mod Tables
 pub mod Adds
 pub mod Launches
-pub mod Sourced

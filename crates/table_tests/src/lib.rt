@@ -7,8 +7,6 @@
 #[cfg(test)]
 mod adds;
 #[cfg(test)]
-mod claims;
-#[cfg(test)]
 mod held;
 #[cfg(test)]
 mod launches;
@@ -18,8 +16,6 @@ mod pairs;
 mod passes;
 #[cfg(test)]
 mod runs;
-#[cfg(test)]
-mod sourced;
 #[cfg(test)]
 mod stops;
 #[cfg(test)]

@@ -82,7 +82,7 @@ fn work_as_crew<R: Threads + Wait + Sync, G: Pause + Sync>(
 }
 
 /// The report of a crew, where a worker sees that the root is done.
-pub(crate) fn report_of<G: Pause>(
+fn report_of<G: Pause>(
     alloc: Global,
     crew: Crew<G>,
     pass: Pass,
@@ -104,7 +104,7 @@ pub(crate) fn report_of<G: Pause>(
 }
 
 /// What two workers of a job make, who call so often each at most, and the report.
-pub(crate) fn run_both<R: Threads + Wait + Sync, G: Pause + Sync>(
+fn run_both<R: Threads + Wait + Sync, G: Pause + Sync>(
     rt: &R,
     alloc: Global,
     job: &Job,
@@ -144,27 +144,10 @@ pub(crate) fn run_text<R: Threads + Wait + Sync, G: Pause + Sync>(
     }
 }
 
-/// Whether a report has so many rows and calls, and the serial objects reply to the calls as it says.
-fn is_replayed(
-    alloc: Global,
-    report: &Report,
-    rows: usize,
-    calls: usize,
-) -> Result<bool, AllocError> {
-    Ok(report.rows.list().len() == rows && replayed(alloc, &report.history)? == Some(calls))
-}
-
-/// Twenty-five copies of eight leaves: one works, and seven call.
-const EIGHT: &[u8] = b"pfor 25 { work @ counter add @*3+1 stack push @ tree insert @ \
-stack pop queue insert @ tree find @ queue take }";
-
-#[test]
-fn a_run_in_two_threads_is_replayed(rt: HostRuntime) -> Result<(), Fail> {
-    let ran = run_text(&rt, rt.alloc(), EIGHT, usize::MAX, &NoPause)?;
-    let (report, _, _) = ran.expect(&rt, "a report");
-    assert!(rt; is_replayed(rt.alloc(), &report, 200, 175)?);
-    Ok(())
-}
+/// Twenty-five copies of eight calls, of all objects.
+const EIGHT: &[u8] =
+    b"pfor 25 { counter add @*3+1 stack push @ tree insert @ stack pop queue insert @ \
+tree find @ queue take tree next @ }";
 
 /// Whether each of two workers made a hundred calls, which the report has.
 fn are_hundreds(report: &Report, first: &[Made], second: &[Made]) -> bool {
@@ -176,16 +159,12 @@ fn are_hundreds(report: &Report, first: &[Made], second: &[Made]) -> bool {
 
 #[test]
 fn two_threads_make_a_hundred_calls_each(rt: HostRuntime) -> Result<(), Fail> {
-    let ran = run_text(
-        &rt,
-        rt.alloc(),
-        b"pfor 200 { counter add 1 }",
-        100,
-        &NoPause,
-    )?;
+    let ran = run_text(&rt, rt.alloc(), EIGHT, 100, &NoPause)?;
     let (report, first, second) = ran.expect(&rt, "a report");
     assert!(rt;
-        are_hundreds(&report, &first, &second) && is_replayed(rt.alloc(), &report, 200, 200)?
+        are_hundreds(&report, &first, &second)
+            && report.rows.list().len() == 200
+            && replayed(rt.alloc(), &report.history)? == Some(200)
     );
     Ok(())
 }

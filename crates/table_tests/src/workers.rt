@@ -1,48 +1,22 @@
 //! Two workers of a running table, each in a thread, that claim whatever node they find ready.
-ghost use Rattle.std.specs.Prelude.{◌≡◌, [], Some, IfOk, IfSome};
+ghost use Rattle.std.specs.Prelude.{◌≡◌, [], Some, IfOk};
 ghost use Rattle.piece_board.specs.Boards.{desk_view};
 ghost use Rattle.worker_crew.specs.Passes.{IsFree};
-ghost use Rattle.core_table.specs.Passes.{job_in, pass_view, IsPassOf, next_in};
+ghost use Rattle.core_table.specs.Passes.{job_in, pass_view, next_in};
 ghost use Rattle.worker_crew.specs.Workers.{IsMeOf, IsReady};
-ghost use Rattle.worker_turns.specs.Callings.{IsCallDue};
 
 use bt_io::{Pause, Point};
 use core_model::Next;
-use core_table::{CoreTable, Pass};
 use seq_objects::{spin, value};
 use std::alloc::Global;
 use std::sync::Wait;
 use worker_turns::{Called, Crew, Me, Stop, call};
 
-/// A call that a worker made: its leaf, the value of its source if it has one, and what was answered.
+/// A call that a worker made: its leaf, and what was answered.
 #[derive(Clone, Copy)]
 pub(crate) struct Made {
     pub(crate) leaf: u32,
-    pub(crate) told: Option<u64>,
     pub(crate) called: Called,
-}
-
-/// The value of the source of the leaf that is to call, where it has one, an earlier leaf, and two answers are alike.
-fn ask_twice(table: &CoreTable, pass: &mut Pass, leaf: u32) -> Option<u64>
-    requires pass { IsPassOf table.now pass.old }
-    requires free { IsFree (pass_view pass.old) }
-    requires due { IsCallDue leaf (next_in table.now (pass_view pass.old)) }
-    ensures pass { IsPassOf table.now pass.new }
-    ensures free { IsFree (pass_view pass.new) }
-    ensures next { next_in table.now (pass_view pass.new) ≡ next_in table.now (pass_view pass.old) }
-    ensures worker { (pass_view pass.new).worker ≡ (pass_view pass.old).worker }
-    ensures told { IfSome result (λ value. (pass_view pass.new).told ≡ Some value) }
-{
-    let Some(source) = table.source(leaf) else {
-        return None;
-    };
-    let first = table.source_value(pass);
-    let second = table.source_value(pass);
-    if source < leaf && first == second {
-        Some(second)
-    } else {
-        None
-    }
 }
 
 /// Makes the worker's next act.
@@ -77,9 +51,8 @@ fn make_act<G: Pause, R: Wait>(
         }
         Next::Spin { steps, .. } => crew.table.keep(&mut me.pass, u64::from(spin(steps))),
         Next::Call { leaf, .. } => {
-            let told = ask_twice(&crew.table, &mut me.pass, leaf);
             let called = call(rt, alloc, crew, me, leaf)?;
-            made.push(Made { leaf, told, called })?;
+            made.push(Made { leaf, called })?;
         }
         Next::Got { reply, .. } => crew.table.keep(&mut me.pass, value(reply)),
         Next::Finish { .. } => crew.table.finish(&mut me.pass),
@@ -117,7 +90,7 @@ fn try_node<G: Pause, R: Wait>(
 }
 
 /// Tries each node once, while it has made fewer calls than these.
-pub(crate) fn try_all<G: Pause, R: Wait>(
+fn try_all<G: Pause, R: Wait>(
     rt: &R,
     alloc: Global,
     crew: &Crew<G>,

@@ -1,2 +1,1 @@
-pub mod AddLemmas
 pub mod LaunchLemmas

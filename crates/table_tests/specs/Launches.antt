@@ -2,8 +2,6 @@
 use Rattle.std.specs.Prelude.{ℕ, ◌≡◌, false, Some, List, [], take}
 use Rattle.seq_objects.specs.declared.call.Call.{Call}
 use Rattle.batch_history.specs.declared.batch.Entry.{Entry}
-use Rattle.core_model.specs.declared.status.CallState.TheVariants.{Out}
-use Rattle.core_model.specs.declared.task.Task.TheVariants.{Started}
 use Rattle.table_rule.specs.declared.view.HoldView.{HoldView}
 use Rattle.core_table.specs.declared.table.CoreTable.{CoreTable}
 use Rattle.core_table.specs.declared.table.Pass.{Pass}
@@ -18,12 +16,9 @@ pub record HasTaken (n : ℕ) (calls : List Call) (h : HoldView) : Type 0 where
   pub early : h.published ≡ false
   pub none : h.answered ≡ []
 
--- The pass has the flag, which it won with this book. It has started the leaf of the node, and its call is out.
-pub record HasFlag (table : CoreTable) (node : ℕ) (before : List (List Entry)) (n : ℕ) (calls : List Call) (pass : Pass) : Type 0 where
+-- the pass has the flag, which it won with this book
+pub record HasFlag (table : CoreTable) (before : List (List Entry)) (n : ℕ) (calls : List Call) (pass : Pass) : Type 0 where
   pub own : IsPassOf table pass
-  pub start : ℕ
-  pub task : (pass_view pass).task ≡ Started node start
-  pub call : (pass_view pass).call ≡ Out
   pub h : HoldView
   pub hold : (pass_view pass).hold ≡ Some h
   pub book : h.book ≡ before
@@ -35,11 +30,8 @@ pub record HasAnswered (size : ℕ) (before : List (List Entry)) (batch : List E
   pub published : IsPublished before batch h
   pub answered : h.answered ≡ take n (workers_in batch)
 
-pub record Answers (table : CoreTable) (node : ℕ) (before : List (List Entry)) (batch : List Entry) (n : ℕ) (pass : Pass) : Type 0 where
+pub record Answers (table : CoreTable) (before : List (List Entry)) (batch : List Entry) (n : ℕ) (pass : Pass) : Type 0 where
   pub own : IsPassOf table pass
-  pub start : ℕ
-  pub task : (pass_view pass).task ≡ Started node start
-  pub call : (pass_view pass).call ≡ Out
   pub h : HoldView
   pub hold : (pass_view pass).hold ≡ Some h
   pub answered : HasAnswered (job_in table).workers before batch n h

@@ -1,4 +1,3 @@
 -- What the tests of the table say of its passes.
 pub mod Tables
-pub mod Adds
 pub mod Launches

@@ -1,6 +1,6 @@
 //! A run over the running table whose launcher is held where it has won the flag.
 
-use crate::runs::run_text;
+use crate::runs::{Ran, run_text};
 use crate::workers::Made;
 use std::test::Fail;
 use test_gates::AtWin;
@@ -17,7 +17,8 @@ fn called_at(leaf: u64, made: &[Made]) -> Option<Called> {
 }
 
 /// Whether each of two workers made a call, and that of a leaf was told of no batch, and is in one of the first two.
-fn is_in_first_two(leaf: u64, zero: &[Made], one: &[Made]) -> bool {
+fn is_in_first_two(leaf: u64, ran: &Ran) -> bool {
+    let (_, zero, one) = ran;
     let call = called_at(leaf, zero).or(called_at(leaf, one));
     zero.len() == 1
         && one.len() == 1
@@ -32,13 +33,12 @@ fn a_call_beside_a_launch_is_at_most_one_batch_later_than_told(
 ) -> Result<(), Fail> {
     let job = b"par { counter add 1 counter add 2 }";
     let gate = AtWin::new();
-    let ran = run_text(&rt, rt.alloc(), job, usize::MAX, &gate)?;
-    let (_, zero, one) = ran.expect(&rt, "a report");
+    let ran = run_text(&rt, rt.alloc(), job, usize::MAX, &gate)?.expect(&rt, "a report");
     assert!(rt;
         gate.wins.count() > 0
             && gate.wins.missed() == 0
             && gate.posts.was_kept()
-            && is_in_first_two(gate.second_leaf(), &zero, &one)
+            && is_in_first_two(gate.second_leaf(), &ran)
     );
     Ok(())
 }

@@ -1,12 +1,11 @@
 //! A launch by hand: all calls that are pending are taken, served as one batch, published and answered.
-ghost use Rattle.std.specs.Prelude.{◌≡◌, ◌<◌, ◌≤◌, ◌+◌, ◌∷◌, ◌++◌, [], List, length, IfOk, IfSome, IfNone};
+ghost use Rattle.std.specs.Prelude.{◌≡◌, ◌<◌, ◌+◌, ◌∷◌, ◌++◌, [], List, length, IfOk, IfSome};
 ghost use Rattle.seq_objects.specs.Pieces.{AllMeet};
 ghost use Rattle.batch_history.specs.declared.batch.Entry.{Entry as EntryOf};
-ghost use Rattle.core_model.specs.declared.status.CallState.TheVariants.{Out};
 ghost use Rattle.launch_batch.specs.Calls.{MayServe, IsServiceOf};
 ghost use Rattle.launch_batch.specs.Pieces.{Meets};
-ghost use Rattle.table_tests.specs.Adds.{IsTwoAdds, HasStarted};
 ghost use Rattle.table_tests.specs.Launches.{HasFlag, Answers};
+ghost use Rattle.table_tests.specs.Tables.{HasNoFlag, IsForTwo};
 
 use batch_history::{Batch, Entry};
 use core_model::Receipt;
@@ -43,34 +42,21 @@ fn serve_calls(alloc: Global, shop: Shop, calls: Vec<Call>) -> Result<(Shop, Bat
     Ok((shop, batch))
 }
 
-/// Tries for the flag.
-pub(crate) fn win(table: &CoreTable, pass: &mut Pass, node: u32) -> Option<Shop>
-    requires out { HasStarted table.now node Out pass.old }
-    ensures won { IfSome result (λ shop. HasFlag table.now node shop 0 [] pass.new) }
-    ensures lost { IfNone result (HasStarted table.now node Out pass.new) }
-{
-    let _ = node;
-    table.win(pass)
-}
-
 /// Looks at worker u, and gives the status that it found: 1 where the call is pending. Then it is taken, and joins the
 /// calls.
-pub(crate) fn look(
+fn look(
     table: &CoreTable,
     pass: &mut Pass,
-    node: u32,
     shop: &Shop,
     u: u32,
     calls: &mut Vec<Call>,
 ) -> Result<u64, AllocError>
-    requires two { IsTwoAdds table.now }
+    requires two { IsForTwo table.now }
     requires low { u < 2 }
-    requires flag { HasFlag table.now node shop.now u calls.old.items pass.old }
-    ensures flag { IfOk result (λ _. HasFlag table.now node shop.now (u + 1) calls.new.items pass.new) }
-    ensures some { IfOk result (λ seen. seen ≡ 1 → 0 < length calls.new.items) }
-    ensures grows { IfOk result (λ _. length calls.old.items ≤ length calls.new.items) }
+    requires flag { HasFlag table.now shop.now u calls.old.items pass.old }
+    ensures flag { IfOk result (λ _. HasFlag table.now shop.now (u + 1) calls.new.items pass.new) }
 {
-    let (_, _) = (node, shop);
+    let _ = shop;
     match table.take(pass, u) {
         Ok(call) => {
             let call = Call {
@@ -85,21 +71,42 @@ pub(crate) fn look(
     }
 }
 
-/// Answers the entries of the batch that the shop has served last, in its order.
-fn answer_all(
+/// Wins the flag, and looks at both workers. The shop and the calls that were taken, where the flag is won, there are
+/// some, and these are the statuses that were found.
+pub(crate) fn win_finding(
+    alloc: Global,
     table: &CoreTable,
     pass: &mut Pass,
-    node: u32,
-    shop: &Shop,
-    batch: &[Entry],
-    number: u32,
-)
-    requires published { (before : List (List EntryOf)) × (before ++ batch.now ∷ [] ≡ shop.now)
-        × (length before ≡ number) × Answers table.now node before batch.now 0 pass.old }
-    ensures answered { (before : List (List EntryOf)) × (before ++ batch.now ∷ [] ≡ shop.now)
-        × Answers table.now node before batch.now (length batch.now) pass.new }
+    statuses: (u64, u64),
+) -> Result<Option<(Shop, Vec<Call>)>, AllocError>
+    requires two { IsForTwo table.now }
+    requires own { HasNoFlag table.now pass.old }
+    ensures flag { IfOk result (λ found. IfSome found (λ held.
+        HasFlag table.now held.0 2 held.1.items pass.new × (0 < length held.1.items))) }
 {
-    let (_, _) = (node, shop);
+    if !pass.trapped() {
+        return Ok(None);
+    }
+    let Some(shop) = table.win(pass) else {
+        return Ok(None);
+    };
+    let mut calls = Vec::new(alloc);
+    let first = look(table, pass, &shop, 0, &mut calls)?;
+    let second = look(table, pass, &shop, 1, &mut calls)?;
+    if (first, second) != statuses || calls.is_empty() {
+        return Ok(None);
+    }
+    Ok(Some((shop, calls)))
+}
+
+/// Answers the entries of the batch that the shop has served last, in its order.
+fn answer_all(table: &CoreTable, pass: &mut Pass, shop: &Shop, batch: &[Entry], number: u32)
+    requires published { (before : List (List EntryOf)) × (before ++ batch.now ∷ [] ≡ shop.now)
+        × (length before ≡ number) × Answers table.now before batch.now 0 pass.old }
+    ensures answered { (before : List (List EntryOf)) × (before ++ batch.now ∷ [] ≡ shop.now)
+        × Answers table.now before batch.now (length batch.now) pass.new }
+{
+    let _ = shop;
     for place in 0..batch.len() {
         let entry = batch[place];
         let receipt = Receipt {
@@ -116,14 +123,13 @@ pub(crate) fn end_launch(
     alloc: Global,
     table: &CoreTable,
     pass: &mut Pass,
-    node: u32,
     shop: Shop,
     calls: Vec<Call>,
 ) -> Result<(), AllocError>
-    requires two { IsTwoAdds table.now }
-    requires flag { HasFlag table.now node shop 2 calls.items pass.old }
+    requires two { IsForTwo table.now }
+    requires flag { HasFlag table.now shop 2 calls.items pass.old }
     requires some { 0 < length calls.items }
-    ensures out { IfOk result (λ _. HasStarted table.now node Out pass.new) }
+    ensures own { IfOk result (λ _. HasNoFlag table.now pass.new) }
 {
     let number = shop.history().batches().len();
     if number > 20_000 {
@@ -133,7 +139,7 @@ pub(crate) fn end_launch(
     let mut entries = Vec::new(alloc);
     entries.extend_from_slice(batch.entries())?;
     table.publish(pass, batch);
-    answer_all(table, pass, node, &shop, entries.as_slice(), number as u32);
+    answer_all(table, pass, &shop, entries.as_slice(), number as u32);
     table.release(pass, shop);
     Ok(())
 }

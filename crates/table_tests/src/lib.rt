@@ -5,17 +5,15 @@
 #![tactic(auto)]
 
 #[cfg(test)]
-mod adds;
-#[cfg(test)]
 mod held;
 #[cfg(test)]
 mod launches;
 #[cfg(test)]
 mod pairs;
 #[cfg(test)]
-mod passes;
-#[cfg(test)]
 mod runs;
+#[cfg(test)]
+mod steps;
 #[cfg(test)]
 mod stops;
 #[cfg(test)]

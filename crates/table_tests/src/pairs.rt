@@ -1,19 +1,136 @@
 //! Two workers at the job of two adds, step by step, on one thread.
-ghost use Rattle.std.specs.Prelude.{◌≡◌, true, IfOk};
-ghost use Rattle.core_model.specs.declared.status.CallState.TheVariants.{NotCalled, Out};
-ghost use Rattle.core_table.specs.Passes.{IsPassOf, view};
-ghost use Rattle.table_tests.specs.Adds.{IsTwoAdds, HasStarted};
-ghost use Rattle.table_tests.specs.Tables.{IsUnused};
+ghost use Rattle.std.specs.Prelude.{◌≡◌, true, Some, IfOk};
+ghost use Rattle.core_table.specs.Passes.{next_in, pass_view};
+ghost use Rattle.sp_order.specs.Precedence.{leaf, par};
+ghost use Rattle.table_tests.specs.Tables.{HasNoFlag, IsForTwo};
 
-use crate::adds::{claim, end, hear, leave, open_left, open_right, post, start, two_adds};
-use crate::launches::{end_launch, look, win};
-use crate::passes::last_pass;
+use crate::launches::{end_launch, win_finding};
+use crate::runs::report_of;
+use crate::steps::{claim, go_on};
 use batch_history::Report;
-use core_model::Receipt;
+use core_model::{Next, Receipt};
 use core_table::{CoreTable, Pass};
-use seq_objects::Reply;
+use seq_objects::{Act, Op, Reply};
+use sp_order::{Job, Shape};
 use std::alloc::{AllocError, Global};
 use std::test::Fail;
+use table_rule::OpRecord;
+
+/// `par { counter add 1 counter add 2 }`.
+fn two_adds(alloc: Global) -> Result<Job, AllocError>
+    ensures { IfOk result (λ job. job.shape ≡ Some (par leaf leaf)) }
+{
+    let shape = Shape::Par(Box::new(alloc, Shape::Leaf)?, Box::new(alloc, Shape::Leaf)?);
+    let acts = vec![in alloc;
+        Act::Call(Op::CounterAdd(0, 1)),
+        Act::Call(Op::CounterAdd(0, 2)),
+    ]?;
+    Ok(Job::of(Some(shape), acts))
+}
+
+/// Whether both workers start a leaf: worker 0 the left one, and then worker 1 the right one.
+fn both_start(table: &CoreTable, zero: &mut Pass, one: &mut Pass) -> bool
+    requires zero { HasNoFlag table.now zero.old }
+    requires one { HasNoFlag table.now one.old }
+    ensures zero { HasNoFlag table.now zero.new }
+    ensures one { HasNoFlag table.now one.new }
+{
+    claim(table, zero, 0) && claim(table, zero, 1) && claim(table, one, 2)
+}
+
+/// Posts this act, if it is a call without a source. Whether it did.
+fn post_act(table: &CoreTable, pass: &mut Pass, act: Next) -> bool
+    requires own { HasNoFlag table.now pass.old }
+    requires due { next_in table.now (pass_view pass.old) ≡ Some act }
+    ensures own { HasNoFlag table.now pass.new }
+{
+    match act {
+        Next::Call { leaf, op, .. } if table.source(leaf).is_none() => {
+            table.post(pass, OpRecord { leaf, op });
+            true
+        }
+        _ => false,
+    }
+}
+
+/// Posts the call that is due, where that is wanted. Whether it did all that is wanted.
+fn post(table: &CoreTable, pass: &mut Pass, is_wanted: bool) -> bool
+    requires own { HasNoFlag table.now pass.old }
+    ensures own { HasNoFlag table.now pass.new }
+{
+    if !is_wanted {
+        return true;
+    }
+    match table.next(pass) {
+        Some(act) => post_act(table, pass, act),
+        None => false,
+    }
+}
+
+/// Whether a worker whose call is out hears of no batch, does not win the flag, and finds this status instead of its
+/// receipt.
+fn is_waiting(table: &CoreTable, pass: &mut Pass, status: u64) -> bool
+    requires own { HasNoFlag table.now pass.old }
+    ensures own { result ≡ true → HasNoFlag table.now pass.new }
+{
+    if !pass.trapped() || table.since(pass) != 0 || table.win(pass).is_some() {
+        return false;
+    }
+    match table.leave(pass) {
+        Ok(_) => false,
+        Err(seen) => seen == status,
+    }
+}
+
+/// Whether worker 0 launches its call, with that of worker 1 where that is posted before worker 0 looks at it, and not
+/// just after. Worker 1 finds the flag won, and its call taken or pending.
+fn is_launched(
+    alloc: Global,
+    table: &CoreTable,
+    zero: &mut Pass,
+    one: &mut Pass,
+    early: bool,
+) -> Result<bool, AllocError>
+    requires two { IsForTwo table.now }
+    requires zero { HasNoFlag table.now zero.old }
+    requires one { HasNoFlag table.now one.old }
+    ensures zero { IfOk result (λ done. done ≡ true → HasNoFlag table.now zero.new) }
+    ensures one { IfOk result (λ done. done ≡ true → HasNoFlag table.now one.new) }
+{
+    let taken = u64::from(early);
+    if !post(table, zero, true) || !post(table, one, early) {
+        return Ok(false);
+    }
+    let Some((shop, calls)) = win_finding(alloc, table, zero, (1, taken))? else {
+        return Ok(false);
+    };
+    if !post(table, one, !early) || !is_waiting(table, one, 1 + taken) {
+        return Ok(false);
+    }
+    end_launch(alloc, table, zero, shop, calls)?;
+    Ok(true)
+}
+
+/// Whether a worker whose call is the only one launches it, where that is wanted.
+fn is_launched_alone(
+    alloc: Global,
+    table: &CoreTable,
+    pass: &mut Pass,
+    is_wanted: bool,
+) -> Result<bool, AllocError>
+    requires two { IsForTwo table.now }
+    requires own { HasNoFlag table.now pass.old }
+    ensures own { IfOk result (λ done. done ≡ true → HasNoFlag table.now pass.new) }
+{
+    if !is_wanted {
+        return Ok(true);
+    }
+    let Some((shop, calls)) = win_finding(alloc, table, pass, (0, 1))? else {
+        return Ok(false);
+    };
+    end_launch(alloc, table, pass, shop, calls)?;
+    Ok(true)
+}
 
 /// A receipt's batch, its place, and the number that it replies.
 fn told(receipt: Receipt) -> (u32, u32, u64) {
@@ -24,6 +141,47 @@ fn told(receipt: Receipt) -> (u32, u32, u64) {
     (receipt.batch, receipt.place, number)
 }
 
+/// Whether a worker leaves with this batch, place and number. It then ends its leaf.
+fn leaves_with(table: &CoreTable, pass: &mut Pass, wanted: (u32, u32, u64)) -> bool
+    requires own { HasNoFlag table.now pass.old }
+    ensures own { HasNoFlag table.now pass.new }
+{
+    if !pass.trapped() {
+        return false;
+    }
+    match table.leave(pass) {
+        Ok(receipt) => {
+            go_on(table, pass);
+            told(receipt) == wanted
+        }
+        Err(_) => false,
+    }
+}
+
+/// Whether both calls are served: as one batch where they are launched together, and else as two.
+fn both_are_served(
+    alloc: Global,
+    table: &CoreTable,
+    zero: &mut Pass,
+    one: &mut Pass,
+    early: bool,
+) -> Result<bool, AllocError>
+    requires two { IsForTwo table.now }
+    requires zero { HasNoFlag table.now zero.old }
+    requires one { HasNoFlag table.now one.old }
+    ensures one { IfOk result (λ done. done ≡ true → HasNoFlag table.now one.new) }
+{
+    if !both_start(table, zero, one)
+        || !is_launched(alloc, table, zero, one, early)?
+        || !leaves_with(table, zero, (0, 0, 1))
+        || !is_launched_alone(alloc, table, one, !early)?
+    {
+        return Ok(false);
+    }
+    let (batch, place) = if early { (0, 1) } else { (1, 0) };
+    Ok(leaves_with(table, one, (batch, place, 3)))
+}
+
 /// Whether these are the rows of the report: the worker, the start, the end and the value of each leaf.
 fn has_rows(report: &Report, wanted: [(u32, u64, u64, u64); 2]) -> bool {
     let rows = report.rows.list();
@@ -32,205 +190,40 @@ fn has_rows(report: &Report, wanted: [(u32, u64, u64, u64); 2]) -> bool {
         && (rows[1].worker, rows[1].start, rows[1].end, rows[1].value) == wanted[1]
 }
 
-/// Whether both workers start a leaf: worker 0 the left one, and then worker 1 the right one.
-fn both_start(table: &CoreTable, zero: &mut Pass, one: &mut Pass) -> bool
-    requires two { IsTwoAdds table.now }
-    requires zero { IsUnused table.now zero.old }
-    requires one { IsUnused table.now one.old }
-    ensures zero { result ≡ true → HasStarted table.now 1 NotCalled zero.new }
-    ensures one { result ≡ true → HasStarted table.now 2 NotCalled one.new }
-{
-    if !claim(table, zero, 0) {
-        return false;
-    }
-    open_right(table, zero);
-    if !claim(table, one, 2) {
-        return false;
-    }
-    open_left(table, zero);
-    if !claim(table, zero, 1) {
-        return false;
-    }
-    start(table, zero, 1) == 0 && start(table, one, 2) == 1
-}
-
-/// Whether worker 0 launches both calls, which are pending, and worker 1 finds the flag won and its call taken.
-fn launch_both(
-    alloc: Global,
-    table: &CoreTable,
-    zero: &mut Pass,
-    one: &mut Pass,
-) -> Result<bool, AllocError>
-    requires two { IsTwoAdds table.now }
-    requires zero { HasStarted table.now 1 NotCalled zero.old }
-    requires one { HasStarted table.now 2 NotCalled one.old }
-    ensures zero { IfOk result (λ done. done ≡ true → HasStarted table.now 1 Out zero.new) }
-    ensures one { IfOk result (λ done. done ≡ true → HasStarted table.now 2 Out one.new) }
-{
-    post(table, zero, 1);
-    post(table, one, 2);
-    let Some(shop) = win(table, zero, 1) else {
-        return Ok(false);
-    };
-    if win(table, one, 2).is_some() {
-        return Ok(false);
-    }
-    let mut calls = Vec::new(alloc);
-    let first = look(table, zero, 1, &shop, 0, &mut calls)?;
-    let second = look(table, zero, 1, &shop, 1, &mut calls)?;
-    if first != 1 || second != 1 || !matches!(leave(table, one, 2), Err(2)) {
-        return Ok(false);
-    }
-    end_launch(alloc, table, zero, 1, shop, calls)?;
-    Ok(true)
-}
-
-/// Whether both workers leave with places 0 and 1 of batch 0 and end their leaves, worker 0 first, and the root is then
-/// done.
-fn both_end(table: &CoreTable, zero: &mut Pass, one: &mut Pass) -> bool
-    requires two { IsTwoAdds table.now }
-    requires zero { HasStarted table.now 1 Out zero.old }
-    requires one { HasStarted table.now 2 Out one.old }
-    ensures one { result ≡ true → IsPassOf table.now one.new }
-    ensures saw { result ≡ true → (view one.new).saw_done ≡ true }
-{
-    let Ok(first) = leave(table, zero, 1) else {
-        return false;
-    };
-    let Ok(second) = leave(table, one, 2) else {
-        return false;
-    };
-    if told(first) != (0, 0, 1) || told(second) != (0, 1, 3) || end(table, zero, 1, first) {
-        return false;
-    }
-    end(table, one, 2, second) && table.root_done(one)
-}
-
-/// Whether the calls of both workers are one batch, and the report has their two rows.
-fn in_one_batch(alloc: Global, table: CoreTable, zero: Pass, one: Pass) -> Result<bool, AllocError>
-    requires two { IsTwoAdds table }
-    requires zero { IsUnused table zero }
-    requires one { IsUnused table one }
-{
-    let (mut zero, mut one) = (zero, one);
-    if !both_start(&table, &mut zero, &mut one)
-        || !launch_both(alloc, &table, &mut zero, &mut one)?
-        || !both_end(&table, &mut zero, &mut one)
-    {
-        return Ok(false);
-    }
-    let report = table.close(alloc, one)?;
-    Ok(report.history.batches().len() == 1 && has_rows(&report, [(0, 0, 2, 1), (1, 1, 3, 3)]))
-}
-
-/// Whether worker 1 posts just after its status was looked at, and hears of no batch then. So worker 0 launches its own
-/// call alone.
-fn launch_alone(
-    alloc: Global,
-    table: &CoreTable,
-    zero: &mut Pass,
-    one: &mut Pass,
-) -> Result<bool, AllocError>
-    requires two { IsTwoAdds table.now }
-    requires zero { HasStarted table.now 1 NotCalled zero.old }
-    requires one { HasStarted table.now 2 NotCalled one.old }
-    ensures zero { IfOk result (λ done. done ≡ true → HasStarted table.now 1 Out zero.new) }
-    ensures one { IfOk result (λ done. done ≡ true → HasStarted table.now 2 Out one.new) }
-{
-    post(table, zero, 1);
-    let Some(shop) = win(table, zero, 1) else {
-        return Ok(false);
-    };
-    let mut calls = Vec::new(alloc);
-    let first = look(table, zero, 1, &shop, 0, &mut calls)?;
-    let second = look(table, zero, 1, &shop, 1, &mut calls)?;
-    post(table, one, 2);
-    if first != 1 || second != 0 || hear(table, one, 2) != 0 {
-        return Ok(false);
-    }
-    end_launch(alloc, table, zero, 1, shop, calls)?;
-    Ok(true)
-}
-
-/// Whether worker 1 launches its call once worker 0 has left with batch 0, leaves with batch 1, and ends the root.
-fn launch_later(
-    alloc: Global,
-    table: &CoreTable,
-    zero: &mut Pass,
-    one: &mut Pass,
-) -> Result<bool, AllocError>
-    requires two { IsTwoAdds table.now }
-    requires zero { HasStarted table.now 1 Out zero.old }
-    requires one { HasStarted table.now 2 Out one.old }
-    ensures one { IfOk result (λ done. done ≡ true → IsPassOf table.now one.new) }
-    ensures saw { IfOk result (λ done. done ≡ true → (view one.new).saw_done ≡ true) }
-{
-    let Some(shop) = win(table, one, 2) else {
-        return Ok(false);
-    };
-    let Ok(receipt) = leave(table, zero, 1) else {
-        return Ok(false);
-    };
-    let mut calls = Vec::new(alloc);
-    let first = look(table, one, 2, &shop, 0, &mut calls)?;
-    let second = look(table, one, 2, &shop, 1, &mut calls)?;
-    if first != 0 || second != 1 || told(receipt) != (0, 0, 1) || end(table, zero, 1, receipt) {
-        return Ok(false);
-    }
-    end_launch(alloc, table, one, 2, shop, calls)?;
-    let Ok(receipt) = leave(table, one, 2) else {
-        return Ok(false);
-    };
-    Ok(told(receipt) == (1, 0, 3) && end(table, one, 2, receipt) && table.root_done(one))
-}
-
-/// Whether the two calls are two batches, and the report has the two rows.
-fn in_two_batches(
-    alloc: Global,
-    table: CoreTable,
-    zero: Pass,
-    one: Pass,
-) -> Result<bool, AllocError>
-    requires two { IsTwoAdds table }
-    requires zero { IsUnused table zero }
-    requires one { IsUnused table one }
-{
-    let (mut zero, mut one) = (zero, one);
-    if !both_start(&table, &mut zero, &mut one)
-        || !launch_alone(alloc, &table, &mut zero, &mut one)?
-        || !launch_later(alloc, &table, &mut zero, &mut one)?
-    {
-        return Ok(false);
-    }
-    let report = table.close(alloc, one)?;
-    Ok(report.history.batches().len() == 2 && has_rows(&report, [(0, 0, 2, 1), (1, 1, 3, 3)]))
-}
-
-/// Whether the two calls are one batch, or two where the second is late.
-fn are_served(alloc: Global, late: bool) -> Result<bool, AllocError> {
+/// The report of two workers whose calls are launched together, or one after the other, where all goes so.
+fn report_of_two(alloc: Global, early: bool) -> Result<Option<Report>, AllocError> {
     let job = two_adds(alloc)?;
     let (table, mut passes) = CoreTable::make(alloc, &job, 2)?;
-    let Some(one) = last_pass(&table, &mut passes) else {
-        return Ok(false);
-    };
-    let Some(zero) = last_pass(&table, &mut passes) else {
-        return Ok(false);
-    };
-    if late {
-        in_two_batches(alloc, table, zero, one)
+    let mut one = passes.remove(1);
+    let mut zero = passes.remove(0);
+    if both_are_served(alloc, &table, &mut zero, &mut one, early)? {
+        report_of(alloc, table, one)
     } else {
-        in_one_batch(alloc, table, zero, one)
+        Ok(None)
     }
+}
+
+/// Whether the report has so many batches, and the rows of both workers.
+fn has_batches(report: &Report, batches: usize) -> bool {
+    report.history.batches().len() == batches && has_rows(report, [(0, 0, 2, 1), (1, 1, 3, 3)])
+}
+
+/// Whether the workers' calls, launched together or not, come in so many batches.
+fn gives_batches(alloc: Global, early: bool, batches: usize) -> Result<bool, AllocError> {
+    Ok(match report_of_two(alloc, early)? {
+        Some(report) => has_batches(&report, batches),
+        None => false,
+    })
 }
 
 #[test]
 fn two_calls_are_one_batch(rt: HostRuntime) -> Result<(), Fail> {
-    assert!(rt; are_served(rt.alloc(), false)?);
+    assert!(rt; gives_batches(rt.alloc(), true, 1)?);
     Ok(())
 }
 
 #[test]
 fn a_late_call_comes_in_the_next_batch(rt: HostRuntime) -> Result<(), Fail> {
-    assert!(rt; are_served(rt.alloc(), true)?);
+    assert!(rt; gives_batches(rt.alloc(), false, 2)?);
     Ok(())
 }

@@ -1,5 +1,5 @@
 //! Runs over the running table in two threads: their reports replayed by the serial objects, and beside the receipts.
-ghost use Rattle.std.specs.Prelude.{◌≡◌, ◌≤◌, length, IfOk};
+ghost use Rattle.std.specs.Prelude.{◌≡◌, ◌≤◌, length, IfOk, IsSome};
 ghost use Rattle.core_table.specs.Passes.{job_in, IsPassOf};
 ghost use Rattle.worker_crew.specs.Workers.{IsReady};
 
@@ -7,7 +7,7 @@ use crate::workers::{Made, Team};
 use batch_history::Report;
 use bt_io::{NoPause, Pause};
 use core_model::Receipt;
-use core_table::Pass;
+use core_table::{CoreTable, Pass};
 use job_lang::read_job;
 use sp_order::Job;
 use std::alloc::{AllocError, Global};
@@ -46,7 +46,6 @@ fn work_both<M: Send, C: Team<M> + Sync, R: Threads + Wait + Sync>(
     team: &C,
     zero: &mut M,
     one: &mut M,
-    nodes: u32,
     calls: usize,
 ) -> (Result<Vec<Made>, Stop>, Result<Vec<Made>, Stop>)
     requires zero { C.ready team.now zero.old }
@@ -55,8 +54,8 @@ fn work_both<M: Send, C: Team<M> + Sync, R: Threads + Wait + Sync>(
 {
     join_mut(
         rt,
-        &mut || team.work(rt, alloc, zero, nodes, calls),
-        &mut || team.work(rt, alloc, one, nodes, calls),
+        &mut || team.work(rt, alloc, zero, calls),
+        &mut || team.work(rt, alloc, one, calls),
     )
 }
 
@@ -67,41 +66,36 @@ fn work_as_crew<R: Threads + Wait + Sync, G: Pause + Sync>(
     crew: &Crew<G>,
     zero: &mut Me,
     one: &mut Me,
-    nodes: u32,
     calls: usize,
 ) -> (Result<Vec<Made>, Stop>, Result<Vec<Made>, Stop>)
     requires workers { crew.now.workers ≡ (job_in crew.now.table).workers }
     requires zero { IsReady crew.now.table crew.now.decks crew.now.board zero.old }
     requires one { IsReady crew.now.table crew.now.decks crew.now.board one.old }
-    ensures { IfOk result.1 (λ _.
-        IsReady crew.now.table crew.now.decks crew.now.board one.new) }
+    ensures { IfOk result.1 (λ _. IsPassOf crew.now.table one.new.pass) }
 {
     crews_go_to_threads::<G>();
     workers_go_to_threads();
-    work_both(rt, alloc, crew, zero, one, nodes, calls)
+    work_both(rt, alloc, crew, zero, one, calls)
 }
 
-/// The report of a crew, where a worker sees that the root is done.
-fn report_of<G: Pause>(
+/// The report of a table, where a worker sees that the root is done.
+pub(crate) fn report_of(
     alloc: Global,
-    crew: Crew<G>,
+    table: CoreTable,
     pass: Pass,
 ) -> Result<Option<Report>, AllocError>
-    requires { IsPassOf crew.table pass }
+    requires { IsPassOf table pass }
 {
     let mut pass = pass;
-    if !crew.table.root_done(&mut pass) {
-        return Ok(None);
+    if table.root_done(&mut pass) {
+        Ok(Some(table.close(alloc, pass)?))
+    } else {
+        Ok(None)
     }
-    let Crew {
-        table,
-        decks: _,
-        board: _,
-        workers: _,
-        pause: _,
-    } = crew;
-    Ok(Some(table.close(alloc, pass)?))
 }
+
+/// The report of a run, and what each of two workers made.
+pub(crate) type Ran = (Report, Vec<Made>, Vec<Made>);
 
 /// What two workers of a job make, who call so often each at most, and the report.
 fn run_both<R: Threads + Wait + Sync, G: Pause + Sync>(
@@ -110,19 +104,23 @@ fn run_both<R: Threads + Wait + Sync, G: Pause + Sync>(
     job: &Job,
     calls: usize,
     pause: &G,
-) -> Result<Option<(Report, Vec<Made>, Vec<Made>)>, AllocError> {
-    if job.shape().is_none() {
-        return Ok(None);
-    }
+) -> Result<Option<Ran>, AllocError>
+    requires { IsSome job.now.shape }
+{
     let (crew, mut mes) = Crew::make(alloc, job, 2, pause)?;
     let mut one = mes.remove(1);
     let mut zero = mes.remove(0);
-    let nodes = crew.table.job().nodes();
-    let (first, second) = work_as_crew(rt, alloc, &crew, &mut zero, &mut one, nodes, calls);
-    let (Ok(first), Ok(second)) = (first, second) else {
+    let (Ok(first), Ok(second)) = work_as_crew(rt, alloc, &crew, &mut zero, &mut one, calls) else {
         return Ok(None);
     };
-    match report_of(alloc, crew, one.pass)? {
+    let Crew {
+        table,
+        decks: _,
+        board: _,
+        workers: _,
+        pause: _,
+    } = crew;
+    match report_of(alloc, table, one.pass)? {
         Some(report) => Ok(Some((report, first, second))),
         None => Ok(None),
     }
@@ -135,12 +133,12 @@ pub(crate) fn run_text<R: Threads + Wait + Sync, G: Pause + Sync>(
     text: &[u8],
     calls: usize,
     pause: &G,
-) -> Result<Option<(Report, Vec<Made>, Vec<Made>)>, AllocError>
+) -> Result<Option<Ran>, AllocError>
     requires { length text.now ≤ 1048576 }
 {
     match read_job(alloc, text) {
-        Ok(job) => run_both(rt, alloc, &job, calls, pause),
-        Err(_) => Ok(None),
+        Ok(job) if job.shape().is_some() => run_both(rt, alloc, &job, calls, pause),
+        _ => Ok(None),
     }
 }
 
@@ -149,22 +147,20 @@ const EIGHT: &[u8] =
     b"pfor 25 { counter add @*3+1 stack push @ tree insert @ stack pop queue insert @ \
 tree find @ queue take tree next @ }";
 
-/// Whether each of two workers made a hundred calls, which the report has.
-fn are_hundreds(report: &Report, first: &[Made], second: &[Made]) -> bool {
-    first.len() == 100
+/// Whether each of two workers made a hundred calls, which the report has, and the serial objects reply to them as it
+/// says.
+fn are_hundreds(alloc: Global, ran: &Ran) -> Result<bool, AllocError> {
+    let (report, first, second) = ran;
+    let are_own = first.len() == 100
         && second.len() == 100
         && are_of(report, 0, first)
-        && are_of(report, 1, second)
+        && are_of(report, 1, second);
+    Ok(are_own && replayed(alloc, &report.history)? == Some(200))
 }
 
 #[test]
 fn two_threads_make_a_hundred_calls_each(rt: HostRuntime) -> Result<(), Fail> {
-    let ran = run_text(&rt, rt.alloc(), EIGHT, 100, &NoPause)?;
-    let (report, first, second) = ran.expect(&rt, "a report");
-    assert!(rt;
-        are_hundreds(&report, &first, &second)
-            && report.rows.list().len() == 200
-            && replayed(rt.alloc(), &report.history)? == Some(200)
-    );
+    let ran = run_text(&rt, rt.alloc(), EIGHT, 100, &NoPause)?.expect(&rt, "a report");
+    assert!(rt; are_hundreds(rt.alloc(), &ran)?);
     Ok(())
 }

@@ -18,7 +18,7 @@ fn is_stopped<R: Wait>(rt: &R, alloc: Global, job: &Job, calls: bool) -> Result<
     let mut zero = mes.remove(0);
     crew.table.stop(&mut one.pass);
     if calls {
-        let made = crew.work(rt, alloc, &mut zero, 1, 1);
+        let made = crew.work(rt, alloc, &mut zero, 1);
         return Ok(matches!(made, Err(Stop::Stopped)));
     }
     let did = free_turn(rt, alloc, &crew, &mut zero);

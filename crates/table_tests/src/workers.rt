@@ -1,13 +1,12 @@
 //! Two workers of a running table, each in a thread, that claim whatever node they find ready.
-ghost use Rattle.std.specs.Prelude.{◌≡◌, [], Some, IfOk};
+ghost use Rattle.std.specs.Prelude.{◌≡◌, [], None, Some, IfOk};
+ghost use Rattle.core_table.specs.Passes.{job_in, pass_view, next_in, IsNotTrapped};
 ghost use Rattle.piece_board.specs.Boards.{desk_view};
-ghost use Rattle.worker_crew.specs.Passes.{IsFree};
-ghost use Rattle.core_table.specs.Passes.{job_in, pass_view, next_in};
-ghost use Rattle.worker_crew.specs.Workers.{IsMeOf, IsReady};
+ghost use Rattle.worker_crew.specs.Workers.{IsMeOf};
 
-use bt_io::{Pause, Point};
+use crate::steps::{claim, go_on};
+use bt_io::Pause;
 use core_model::Next;
-use seq_objects::{spin, value};
 use std::alloc::Global;
 use std::sync::Wait;
 use worker_turns::{Called, Crew, Me, Stop, call};
@@ -19,8 +18,8 @@ pub(crate) struct Made {
     pub(crate) called: Called,
 }
 
-/// Makes the worker's next act.
-fn make_act<G: Pause, R: Wait>(
+/// Makes this act, if it is a call, and goes on.
+fn make_call<G: Pause, R: Wait>(
     rt: &R,
     alloc: Global,
     crew: &Crew<G>,
@@ -29,36 +28,20 @@ fn make_act<G: Pause, R: Wait>(
     made: &mut Vec<Made>,
 ) -> Result<(), Stop>
     requires me { IsMeOf crew.now.table crew.now.decks crew.now.board me.old }
-    requires free_pass { IsFree (pass_view me.old.pass) }
+    requires flag { (pass_view me.old.pass).hold ≡ None }
+    requires row { (desk_view me.old.desk).posted ≡ [] }
+    requires free { IsNotTrapped me.old.pass }
     requires due { next_in crew.now.table (pass_view me.old.pass) ≡ Some act }
-    requires free { (desk_view me.old.desk).posted ≡ [] }
     requires workers { crew.now.workers ≡ (job_in crew.now.table).workers }
     ensures me { IfOk result (λ _.
         IsMeOf crew.now.table crew.now.decks crew.now.board me.new) }
-    ensures free_pass { IfOk result (λ _. IsFree (pass_view me.new.pass)) }
-    ensures free { IfOk result (λ _. (desk_view me.new.desk).posted ≡ []) }
+    ensures flag { IfOk result (λ _. (pass_view me.new.pass).hold ≡ None) }
+    ensures row { IfOk result (λ _. (desk_view me.new.desk).posted ≡ []) }
 {
-    match act {
-        Next::Start { leaf, .. } => {
-            crew.table.tick(&mut me.pass);
-            crew.pause.at(Point::LeafStart(leaf), me.hand.worker());
-        }
-        Next::End { .. } => {
-            crew.table.tick(&mut me.pass);
-        }
-        Next::Open { .. } => {
-            crew.table.open_node(&mut me.pass);
-        }
-        Next::Spin { steps, .. } => crew.table.keep(&mut me.pass, u64::from(spin(steps))),
-        Next::Call { leaf, .. } => {
-            let called = call(rt, alloc, crew, me, leaf)?;
-            made.push(Made { leaf, called })?;
-        }
-        Next::Got { reply, .. } => crew.table.keep(&mut me.pass, value(reply)),
-        Next::Finish { .. } => crew.table.finish(&mut me.pass),
-        Next::Arrive { .. } => {
-            crew.table.arrive(&mut me.pass);
-        }
+    if let Next::Call { leaf, .. } = act {
+        let called = call(rt, alloc, crew, me, leaf)?;
+        made.push(Made { leaf, called })?;
+        go_on(&crew.table, &mut me.pass);
     }
     Ok(())
 }
@@ -72,66 +55,52 @@ fn try_node<G: Pause, R: Wait>(
     node: u32,
     made: &mut Vec<Made>,
 ) -> Result<(), Stop>
-    requires ready { IsReady crew.now.table crew.now.decks crew.now.board me.old }
+    requires me { IsMeOf crew.now.table crew.now.decks crew.now.board me.old }
+    requires flag { (pass_view me.old.pass).hold ≡ None }
+    requires row { (desk_view me.old.desk).posted ≡ [] }
     requires workers { crew.now.workers ≡ (job_in crew.now.table).workers }
-    ensures ready { IfOk result (λ _.
-        IsReady crew.now.table crew.now.decks crew.now.board me.new) }
+    ensures me { IfOk result (λ _.
+        IsMeOf crew.now.table crew.now.decks crew.now.board me.new) }
+    ensures flag { IfOk result (λ _. (pass_view me.new.pass).hold ≡ None) }
+    ensures row { IfOk result (λ _. (desk_view me.new.desk).posted ≡ []) }
 {
-    if !crew.table.claim(&mut me.pass, node) {
+    if !claim(&crew.table, &mut me.pass, node) || me.pass.trapped() {
         return Ok(());
     }
-    for _ in rt.forever() {
-        let Some(act) = crew.table.next(&me.pass) else {
-            return Ok(());
-        };
-        make_act(rt, alloc, crew, me, act, made)?;
+    match crew.table.next(&me.pass) {
+        Some(act) => make_call(rt, alloc, crew, me, act, made),
+        None => Ok(()),
     }
-    unreachable!()
 }
 
-/// Tries each node once, while it has made fewer calls than these.
-fn try_all<G: Pause, R: Wait>(
-    rt: &R,
-    alloc: Global,
-    crew: &Crew<G>,
-    me: &mut Me,
-    nodes: u32,
-    calls: usize,
-    made: &mut Vec<Made>,
-) -> Result<(), Stop>
-    requires ready { IsReady crew.now.table crew.now.decks crew.now.board me.old }
-    requires workers { crew.now.workers ≡ (job_in crew.now.table).workers }
-    ensures ready { IfOk result (λ _.
-        IsReady crew.now.table crew.now.decks crew.now.board me.new) }
-{
-    for node in 0..nodes {
-        if made.len() < calls {
-            try_node(rt, alloc, crew, me, node, made)?;
-        }
-    }
-    Ok(())
-}
+/// More nodes than a job of these tests has.
+const NODES: u32 = 400;
 
-/// Lets a worker try the nodes until it has made so many calls, or the root is done.
+/// Lets a worker try the nodes round and round until it has made so many calls, or the root is done.
 fn work_to<G: Pause, R: Wait>(
     rt: &R,
     alloc: Global,
     crew: &Crew<G>,
     me: &mut Me,
-    nodes: u32,
     calls: usize,
 ) -> Result<Vec<Made>, Stop>
-    requires ready { IsReady crew.now.table crew.now.decks crew.now.board me.old }
+    requires me { IsMeOf crew.now.table crew.now.decks crew.now.board me.old }
+    requires flag { (pass_view me.old.pass).hold ≡ None }
+    requires row { (desk_view me.old.desk).posted ≡ [] }
     requires workers { crew.now.workers ≡ (job_in crew.now.table).workers }
-    ensures ready { IfOk result (λ _.
-        IsReady crew.now.table crew.now.decks crew.now.board me.new) }
+    ensures me { IfOk result (λ _.
+        IsMeOf crew.now.table crew.now.decks crew.now.board me.new) }
+    ensures flag { IfOk result (λ _. (pass_view me.new.pass).hold ≡ None) }
+    ensures row { IfOk result (λ _. (desk_view me.new.desk).posted ≡ []) }
 {
     let mut made = Vec::new(alloc);
+    let mut node = 0;
     for _ in rt.forever() {
         if made.len() >= calls || crew.table.root_done(&mut me.pass) {
             return Ok(made);
         }
-        try_all(rt, alloc, crew, me, nodes, calls, &mut made)?;
+        try_node(rt, alloc, crew, me, node, &mut made)?;
+        node = (node + 1) % NODES;
     }
     unreachable!()
 }
@@ -147,7 +116,6 @@ pub(crate) trait Team<M> {
         rt: &R,
         alloc: Global,
         me: &mut M,
-        nodes: u32,
         calls: usize,
     ) -> Result<Vec<Made>, Stop>
         requires ready { ready self.now me.old }
@@ -156,16 +124,16 @@ pub(crate) trait Team<M> {
 
 impl<'a, G: Pause> Team<Me> for Crew<'a, G> {
     ghost ready = { λ crew me. (crew.workers ≡ (job_in crew.table).workers)
-        × IsReady crew.table crew.decks crew.board me };
+        × IsMeOf crew.table crew.decks crew.board me × ((pass_view me.pass).hold ≡ None)
+        × ((desk_view me.desk).posted ≡ []) };
 
     fn work<R: Wait>(
         &self,
         rt: &R,
         alloc: Global,
         me: &mut Me,
-        nodes: u32,
         calls: usize,
     ) -> Result<Vec<Made>, Stop> {
-        work_to(rt, alloc, self, me, nodes, calls)
+        work_to(rt, alloc, self, me, calls)
     }
 }

@@ -28,21 +28,21 @@ use Rattle.core_table.specs.Passes.{IsPassOf, job_in, view, pass_view}
 use Rattle.worker_turns.specs.Holds.{workers_in}
 use Rattle.worker_turns.proofs.HoldLemmas.Fits.{fit_taken, fit_passed}
 use Rattle.worker_turns.proofs.HoldLemmas.Serving as serving
-use Rattle.table_tests.specs.Adds.{IsTwoAdds}
 use Rattle.table_tests.specs.Launches.{HasFlag, Answers}
+use Rattle.table_tests.specs.Tables.{IsForTwo}
 
-few_calls : (t : CoreTable) → IsTwoAdds t → call_count (job_in t) ≤ 20000
+few_calls : (t : CoreTable) → IsForTwo t → call_count (job_in t) ≤ 20000
 unfolding nodes_of
 few_calls t two =
     let some = room_few (job_in t) in
-    let three : (job_in t).plan.count ≡ 3 = ap (λ (tree : Tree). (nodes_of tree).count) (ap tree_or_leaf two.shape) in
+    let three : (job_in t).plan.count ≡ 3 = ap (λ (tree : Tree). (nodes_of tree).count) (ap tree_or_leaf two.1) in
     omega (arith, some, three)
 
 not_none : (calls : List Call) → 0 < length calls → calls ≢ []
 not_none [] some e = absurd (omega (arith, some))
 not_none (c ∷ calls) some e = absurd (cc)
 
-module _ (t : CoreTable) (node n : ℕ) (before : List (List Entry)) (calls : List Call) (p : Pass) (f : HasFlag t node before n calls p) where
+module _ (t : CoreTable) (n : ℕ) (before : List (List Entry)) (calls : List Call) (p : Pass) (f : HasFlag t before n calls p) where
   -- the calls that were taken can be served
   pub flag_serves : 0 < length calls → MayServe before calls
   flag_serves some =
@@ -63,17 +63,14 @@ module _ (t : CoreTable) (node n : ℕ) (before : List (List Entry)) (calls : Li
 
   module _ (q : Pass) (own : IsPassOf t q) where
     -- a look that takes a call
-    pub flag_took : (call : OpRecord) (items : List Call) → IsTwoAdds t → n < 2
+    pub flag_took : (call : OpRecord) (items : List Call) → IsForTwo t → n < 2
         → (h : HoldView) → (pass_view p).hold ≡ Some h → IsNewCall (call_count (job_in t)) h call → view q ≡ with_step (taking (call_by n call)) (view p)
-        → items ≡ calls ++ call_by n call ∷ [] → HasFlag t node before (n + 1) items q
+        → items ≡ calls ++ call_by n call ∷ [] → HasFlag t before (n + 1) items q
     flag_took call items two low h held new now put =
         let g = after_take (call_by n call) in
         let same : h ≡ f.h = same_Some h f.h (sym held ∙ f.hold) in
         record {
           own = own;
-          start = f.start;
-          task = ap (λ (v : View). v.own.task) now ∙ f.task;
-          call = ap (λ (v : View). v.own.call) now ∙ f.call;
           h = g f.h;
           hold = ap (λ (v : View). v.own.hold) now ∙ ap (in_hold g) f.hold;
           book = f.book;
@@ -87,12 +84,9 @@ module _ (t : CoreTable) (node n : ℕ) (before : List (List Entry)) (calls : Li
         }
 
     -- a look that takes none
-    pub flag_passed : (seen : ℕ) → view q ≡ with_found seen (skipping n seen) (view p) → HasFlag t node before (n + 1) calls q
+    pub flag_passed : (seen : ℕ) → view q ≡ with_found seen (skipping n seen) (view p) → HasFlag t before (n + 1) calls q
     flag_passed seen now = record {
       own = own;
-      start = f.start;
-      task = ap (λ (v : View). v.own.task) now ∙ f.task;
-      call = ap (λ (v : View). v.own.call) now ∙ f.call;
       h = after_pass seen f.h;
       hold = ap (λ (v : View). v.own.hold) now ∙ ap (in_hold (after_pass seen)) f.hold;
       book = f.book;
@@ -107,12 +101,9 @@ module _ (t : CoreTable) (node n : ℕ) (before : List (List Entry)) (calls : Li
 
     -- a publish
     pub flag_published : (batch : List Entry) → 0 < length calls → IsServiceOf before calls batch → n ≡ (job_in t).workers
-        → view q ≡ with_step (publishing batch) (view p) → Answers t node before batch 0 q
+        → view q ≡ with_step (publishing batch) (view p) → Answers t before batch 0 q
     flag_published batch some s size now = record {
       own = own;
-      start = f.start;
-      task = ap (λ (v : View). v.own.task) now ∙ f.task;
-      call = ap (λ (v : View). v.own.call) now ∙ f.call;
       h = after_publish batch f.h;
       hold = ap (λ (v : View). v.own.hold) now ∙ ap (in_hold (after_publish batch)) f.hold;
       answered = record {
@@ -136,14 +127,14 @@ workers_more (e ∷ batch) (suc i) d low =
     ap (λ l. e.worker ∷ l) (workers_more batch i d (omega (arith, low))) ∙ ap (λ k. take k (workers_in (e ∷ batch))) next
 
 -- a batch has not many entries
-pub answers_few : (t : CoreTable) (node : ℕ) (before : List (List Entry)) (batch : List Entry) (i : ℕ) (p : Pass) → Answers t node before batch i p → length batch ≤ 20000
-answers_few t node before batch i p a =
+pub answers_few : (t : CoreTable) (before : List (List Entry)) (batch : List Entry) (i : ℕ) (p : Pass) → Answers t before batch i p → length batch ≤ 20000
+answers_few t before batch i p a =
     let s = a.answered.published in
     let many = sym (length-map batch call_in) ∙ length_same a.h.taken (calls_in batch) s.service.same in
     let most = s.may.most in
     omega (arith, many, most)
 
-module _ (t : CoreTable) (node : ℕ) (before : List (List Entry)) (batch : List Entry) (i : ℕ) (d : Entry) (p : Pass) (a : Answers t node before batch i p) where
+module _ (t : CoreTable) (before : List (List Entry)) (batch : List Entry) (i : ℕ) (d : Entry) (p : Pass) (a : Answers t before batch i p) where
   -- what an answer needs of the hold
   abbrev Due : ℕ → Type 0
   Due number = (call : OpRecord) × (a.h.published ≡ true) × (record_in a.h.taken (get_or batch i d).worker ≡ Some call)
@@ -160,14 +151,11 @@ module _ (t : CoreTable) (node : ℕ) (before : List (List Entry)) (batch : List
   answer_due number low is = let r = due_now number low is in (a.h, r.0, a.hold, r.1, r.2, r.3, r.4)
 
   pub one_answered : (receipt : Receipt) (q : Pass) → IsPassOf t q → i < length batch → view q ≡ with_step (answering (get_or batch i d).worker receipt) (view p)
-      → Answers t node before batch (i + 1) q
+      → Answers t before batch (i + 1) q
   one_answered receipt q own low now =
       let w = (get_or batch i d).worker in
       record {
         own = own;
-        start = a.start;
-        task = ap (λ (v : View). v.own.task) now ∙ a.task;
-        call = ap (λ (v : View). v.own.call) now ∙ a.call;
         h = after_answer w a.h;
         hold = ap (λ (v : View). v.own.hold) now ∙ ap (in_hold (after_answer w)) a.hold;
         answered = record {
@@ -182,9 +170,9 @@ module _ (t : CoreTable) (node : ℕ) (before : List (List Entry)) (batch : List
         };
       }
 
-pub all_answered : (t : CoreTable) (node : ℕ) (before : List (List Entry)) (batch : List Entry) (p : Pass) → Answers t node before batch (length batch) p
+pub all_answered : (t : CoreTable) (before : List (List Entry)) (batch : List Entry) (p : Pass) → Answers t before batch (length batch) p
     → (h : HoldView) × ((pass_view p).hold ≡ Some h) × IsReleaseDue (job_in t).workers h × (before ++ batch ∷ [] ≡ h.book)
-all_answered t node before batch p a =
+all_answered t before batch p a =
     let long = length-map batch (λ (e : Entry). e.worker) in
     let all = a.answered.answered ∙ take_all (length batch) (workers_in batch) (omega (arith, long)) in (
       a.h,

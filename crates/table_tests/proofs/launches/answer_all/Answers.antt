@@ -5,7 +5,7 @@ use Rattle.table_tests.proofs.launches.answer_all.Goals as goal
 pub answer-requires-clause-due : goal.answer-requires-clause-due
 answer-requires-clause-due c =
     let i = c.loop-place.invariant in
-    answer_due c.args.table.now c.args.node i.0 c.args.batch.now c.loop-place.place _ c.loop-place.pass i.3 c.args.number c.loop-place-test.true i.2
+    answer_due c.args.table.now i.0 c.args.batch.now c.loop-place.place _ c.loop-place.pass i.3 c.args.number c.loop-place-test.true i.2
 
 pub loop-place-preserved : goal.loop-place-preserved
 loop-place-preserved c =
@@ -13,7 +13,7 @@ loop-place-preserved c =
       i.0,
       i.1,
       i.2,
-      one_answered c.args.table.now c.args.node i.0 c.args.batch.now c.loop-place.place _ c.loop-place.pass i.3 _ c.answer.new.pass c.answer.ensures.pass
+      one_answered c.args.table.now i.0 c.args.batch.now c.loop-place.place _ c.loop-place.pass i.3 _ c.answer.new.pass c.answer.ensures.pass
           c.loop-place-test.true c.answer.ensures.answered,
     )
 
@@ -21,5 +21,5 @@ pub overflow_cast-receipt : goal.overflow_cast-receipt
 overflow_cast-receipt c =
     let i = c.loop-place.invariant in
     let d = c.args.batch.now in
-    let few = answers_few c.args.table.now c.args.node i.0 d c.loop-place.place c.loop-place.pass i.3 in
+    let few = answers_few c.args.table.now i.0 d c.loop-place.place c.loop-place.pass i.3 in
     omega (arith, few, c.loop-place-test.true)

@@ -5,12 +5,12 @@ use Rattle.table_tests.proofs.LaunchLemmas.Flags.{flag_serves, flag_due, flag_pu
 use Rattle.table_tests.proofs.launches.end_launch.Goals as goal
 
 pub serve_calls-requires : goal.serve_calls-requires
-serve_calls-requires c = flag_serves c.args.table.now c.args.node 2 c.args.shop c.args.calls.items c.args.pass.now c.requires.flag c.requires.some
+serve_calls-requires c = flag_serves c.args.table.now 2 c.args.shop c.args.calls.items c.args.pass.now c.requires.flag c.requires.some
 
 pub publish-requires-clause-due : goal.publish-requires-clause-due
 publish-requires-clause-due c =
-    flag_due c.args.table.now c.args.node 2 c.args.shop c.args.calls.items c.args.pass.now c.requires.flag c.in_ok-shop.batch c.requires.some c.in_ok-shop.ensures.batch
-    (sym c.requires.two.workers)
+    flag_due c.args.table.now 2 c.args.shop c.args.calls.items c.args.pass.now c.requires.flag c.in_ok-shop.batch c.requires.some c.in_ok-shop.ensures.batch
+    (sym c.requires.two.0)
 
 pub answer_all-requires : goal.answer_all-requires
 answer_all-requires c =
@@ -24,14 +24,14 @@ answer_all-requires c =
         c.args.shop,
         ap (λ (l : List Entry). c.args.shop ++ l ∷ []) all ∙ sym c.in_ok-shop.ensures.shop,
         number,
-        subst (λ (l : List Entry). Answers t c.args.node c.args.shop l 0 c.publish.new.pass) (sym all)
-            (flag_published t c.args.node 2 c.args.shop c.args.calls.items c.args.pass.now c.requires.flag c.publish.new.pass c.publish.ensures.pass batch c.requires.some
-            c.in_ok-shop.ensures.batch (sym c.requires.two.workers) c.publish.ensures.published),
+        subst (λ (l : List Entry). Answers t c.args.shop l 0 c.publish.new.pass) (sym all)
+            (flag_published t 2 c.args.shop c.args.calls.items c.args.pass.now c.requires.flag c.publish.new.pass c.publish.ensures.pass batch c.requires.some
+            c.in_ok-shop.ensures.batch (sym c.requires.two.0) c.publish.ensures.published),
       );
     }
 
 pub release-requires-clause-due : goal.release-requires-clause-due
 release-requires-clause-due c =
     let done = c.answer_all.ensures.answered in
-    let due = all_answered c.args.table.now c.args.node done.0 c.as_slice.result.now c.answer_all.new.pass done.2 in
+    let due = all_answered c.args.table.now done.0 c.as_slice.result.now c.answer_all.new.pass done.2 in
     (due.0, due.1, due.2, sym done.1 ∙ due.3)

@@ -141,7 +141,6 @@ impl<X: Drop> RowList<X> {
             }
         }
         let mut rows = self.into_rows(alloc)?;
-        let own = take_lasts(alloc, &mut rows, count)?;
-        Ok(own)
+        take_lasts(alloc, &mut rows, count)
     }
 }

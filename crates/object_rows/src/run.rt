@@ -5,19 +5,8 @@ ghost use Rattle.object_rows.specs.Rows.{MembersMeet};
 
 use crate::members::Members;
 use crate::row_list::RowList;
-use seq_objects::Batched;
+use seq_objects::{Batched, run_in_turn};
 use std::alloc::{AllocError, Global};
-
-/// Runs the pieces of a vector one after another.
-fn run_each<T: Batched>(alloc: Global, ins: Vec<T::In>) -> Result<Vec<T::Out>, AllocError>
-    ensures { IfOk result (λ outs. AllMeet T.meets ins.items outs.items) }
-{
-    let mut outs = Vec::with_capacity(alloc, ins.len())?;
-    for input in ins {
-        outs.push(T::piece(alloc, input)?)?;
-    }
-    Ok(outs)
-}
 
 /// Runs the pieces of one place one after another.
 pub fn run_all<T: Batched>(
@@ -28,7 +17,7 @@ pub fn run_all<T: Batched>(
 {
     let outs = match ins {
         Members::One(input) => Members::One(T::piece(alloc, input)?),
-        Members::Many(all) => Members::Many(run_each::<T>(alloc, all)?),
+        Members::Many(all) => Members::Many(run_in_turn::<T>(alloc, all)?),
     };
     Ok(outs)
 }
@@ -55,7 +44,7 @@ pub fn run_rows<T: Batched>(
     ensures { IfOk result (λ outs. AllMeet (MembersMeet T.meets) rows.items outs.items) }
 {
     let (first, behind) = rows.into_parts();
-    let ones = run_each::<T>(alloc, first)?;
+    let ones = run_in_turn::<T>(alloc, first)?;
     let others = run_others::<T>(alloc, behind)?;
     Ok(RowList::of_parts(ones, others))
 }

@@ -71,6 +71,17 @@ pub trait Batched: Sized + Drop {
         ensures content { IfOk result (λ p. (o : BatchContext Self Self.In) → is_context_of rest o → AllMeet meets o.ins outs.items → content p.0 ≡ after_all (content o.before) o.calls) };
 }
 
+/// Runs pieces one after another.
+pub fn run_in_turn<T: Batched>(alloc: Global, ins: Vec<T::In>) -> Result<Vec<T::Out>, AllocError>
+    ensures { IfOk result (λ outs. AllMeet T.meets ins.items outs.items) }
+{
+    let mut outs = Vec::with_capacity(alloc, ins.len())?;
+    for input in ins {
+        outs.push(T::piece(alloc, input)?)?;
+    }
+    Ok(outs)
+}
+
 /// Serves a batch on one thread, piece after piece. The structure is lost if memory runs out.
 pub fn serve_batch<T: Batched>(
     alloc: Global,
@@ -84,9 +95,6 @@ pub fn serve_batch<T: Batched>(
     ensures content { IfOk result (λ p. T.content p.0 ≡ after_all (T.content structure) calls.now) }
 {
     let (rest, ins) = structure.begin(alloc, calls)?;
-    let mut outs = Vec::with_capacity(alloc, ins.len())?;
-    for input in ins {
-        outs.push(T::piece(alloc, input)?)?;
-    }
+    let outs = run_in_turn::<T>(alloc, ins)?;
     T::end(alloc, rest, outs)
 }

@@ -22,7 +22,7 @@ pub mod work;
 
 pub use act::Act;
 pub use batch_order::{comes_first, place_in_batch_order};
-pub use batched::{Batched, serve_batch};
+pub use batched::{Batched, run_in_turn, serve_batch};
 pub use call::Call;
 pub use op::Op;
 pub use plain::Plain;

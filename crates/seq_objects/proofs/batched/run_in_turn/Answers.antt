@@ -1,7 +1,7 @@
 use Rattle.std.proofs.Common.{arith, ◌≡◌}
 use Rattle.std.proofs.lemmas.Grind.{common_steps}
 use Rattle.seq_objects.proofs.Meets.{meets_more}
-use Rattle.object_rows.proofs.run.run_each.Goals as goal
+use Rattle.seq_objects.proofs.batched.run_in_turn.Goals as goal
 
 pub loop-input-preserved : goal.loop-input-preserved
 loop-input-preserved g c = record {

@@ -1,6 +1,6 @@
 use Rattle.std.proofs.Common.{◌≡◌, ◌++◌}
 use Rattle.seq_objects.specs.Pieces.{AllMeet}
-use Rattle.object_rows.proofs.run.run_each.Given as goal
+use Rattle.seq_objects.proofs.batched.run_in_turn.Given as goal
 
 -- the outs so far meet the pieces that were run
 abbrev pub invariant-loop-input : goal.invariant-loop-input

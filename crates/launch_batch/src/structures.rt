@@ -8,10 +8,22 @@ use batched_tree::TreeSet;
 
 /// A row of structures for each kind. They stay in one box across batches, so a shop moves as a pointer, and a batch
 /// moves only the structures that it calls.
-#[derive(Drop)]
 pub struct Structures {
     pub counter: RowOf<Counter>,
     pub stack: RowOf<Stack>,
     pub tree: RowOf<TreeSet>,
     pub queue: RowOf<Queue>,
+}
+
+// A crate that drops a value proves the drop of each type inside, down to a type with an `impl`. This one ends there, so
+// that the crates above prove nothing of the four structures.
+impl Drop for Structures {
+    fn drop(self) {
+        let Structures {
+            counter: _,
+            stack: _,
+            tree: _,
+            queue: _,
+        } = self;
+    }
 }

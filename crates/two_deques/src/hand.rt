@@ -7,11 +7,22 @@ use crate::spot::Spot;
 
 /// One worker's ends of all deques, those of ready nodes (`core`) and those of pieces (`batch`). It is moved to the
 /// worker's thread.
-#[derive(Drop)]
 pub struct Hand {
     pub(crate) worker: u32,
     pub(crate) core: Ends<u32>,
     pub(crate) batch: Ends<Spot>,
+}
+
+// A crate that drops a value proves the drop of each type inside, down to a type with an `impl`: this one ends that of
+// the deques' ends.
+impl Drop for Hand {
+    fn drop(self) {
+        let Hand {
+            worker: _,
+            core: _,
+            batch: _,
+        } = self;
+    }
 }
 
 impl Hand {

@@ -10,10 +10,17 @@ use sp_order::{Job, PlannedJob};
 use std::alloc::{AllocError, Global};
 
 /// What a run is for: a job with leaves, its plan, and the number of workers.
-#[derive(Drop)]
 pub struct Setting {
     pub job: PlannedJob,
     pub workers: u32,
+}
+
+// A crate that drops a value proves the drop of each type inside, down to a type with an `impl`: this one ends that of
+// the job and its plan.
+impl Drop for Setting {
+    fn drop(self) {
+        let Setting { job: _, workers: _ } = self;
+    }
 }
 
 impl Setting {

@@ -110,7 +110,8 @@ fn run_both<R: Threads + Wait + Sync, G: Pause + Sync>(
     let (crew, mut mes) = Crew::make(alloc, job, 2, pause)?;
     let mut one = mes.remove(1);
     let mut zero = mes.remove(0);
-    let (Ok(first), Ok(second)) = work_as_crew(rt, alloc, &crew, &mut zero, &mut one, calls) else {
+    let (first, second) = work_as_crew(rt, alloc, &crew, &mut zero, &mut one, calls);
+    let (Ok(first), Ok(second)) = (first, second) else {
         return Ok(None);
     };
     let Crew {

@@ -1,0 +1,6 @@
+-- The specification of shared calls.
+pub mod Serial
+pub mod Logs
+pub mod Stages
+pub mod Rule
+pub mod Plays

@@ -1,0 +1,28 @@
+//! The structures that can be shared.
+ghost use Rattle.std.specs.Prelude.{IfOk};
+ghost use Rattle.shared_calls.specs.Serial.{SerialObject, IsServedInSomeOrder};
+
+use std::alloc::{AllocError, Global};
+
+/// A structure that serves a batch of calls as if they came one after another.
+pub trait Combined: Sized + Drop {
+    /// What a call asks, and what it is answered.
+    type Op: Drop;
+
+    type Reply: Drop;
+
+    /// The serial object that the structure stands for.
+    ghost object: { SerialObject Self.Op Self.Reply };
+
+    /// The content of the structure, as a state of this object.
+    ghost content: { Self → SerialObject.State object };
+
+    /// Serves a batch, in an order of its own, and returns the replies in the order of `ops`. The structure is lost if
+    /// memory runs out.
+    fn serve(
+        self,
+        alloc: Global,
+        ops: Vec<Self::Op>,
+    ) -> Result<(Self, Vec<Self::Reply>), AllocError>
+        ensures { IfOk result (λ p. IsServedInSomeOrder object (content self) ops.items p.1.items (content p.0)) };
+}

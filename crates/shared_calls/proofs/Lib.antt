@@ -4,3 +4,7 @@ pub mod CallerSteps
 pub mod Batches
 pub mod HolderSteps
 pub mod Seats
+pub mod InHand
+pub mod Loops
+pub mod Openings
+pub mod InOrder

@@ -1,6 +1,9 @@
 -- The specification of shared calls.
 pub mod Serial
+pub mod Counters
 pub mod Logs
 pub mod Stages
 pub mod Rule
 pub mod Plays
+pub mod Callers
+pub mod Views

@@ -8,10 +8,18 @@
 //! run. `call` waits; no other function does.
 #![tactic(auto)]
 
+mod calls;
 mod combined;
+pub mod laws;
 mod rule;
+mod share;
+mod shared;
+mod steps;
+#[cfg(test)]
+mod tests;
 mod view;
 
 pub use combined::Combined;
+pub use shared::{Caller, Lost, Note, Shared};
 #[doc(hidden)]
 pub use view::{Asked, Entry, Request, Slot, View};

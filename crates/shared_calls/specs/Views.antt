@@ -1,0 +1,43 @@
+-- What contracts see of a shared structure and its callers.
+use Rattle.std.specs.Prelude.{ℕ, ◌≡◌, ◌<◌, List, [], length, slice_index_or, Bool, false}
+use Rattle.shared_calls.specs.declared.shared.Shared.{Shared}
+use Rattle.shared_calls.specs.declared.shared.Caller.{Caller}
+use Rattle.shared_calls.specs.declared.shared.Note.{Note}
+use Rattle.shared_calls.specs.declared.view.Entry.{Entry}
+use Rattle.shared_calls.specs.declared.combined.Combined.{Ghosts}
+use Rattle.shared_calls.specs.Plays.{own_calls}
+
+module _ {T O R : Type 0} {g : Ghosts T O R} where
+  abbrev pub number_of : Caller T O R g → ℕ
+  number_of c = c.number
+
+  -- the calls that the caller made, oldest first
+  abbrev pub made : Caller T O R g → List (Entry O R)
+  made c = own_calls c.seat.me.0
+
+  -- all calls, of all callers, that it has seen, in the order in which they were served
+  abbrev pub seen : Caller T O R g → List (Entry O R)
+  seen c = c.seat.me.0.seen
+
+  abbrev pub is_lost : Caller T O R g → Bool
+  is_lost c = c.lost
+
+  -- the caller is one of this structure's
+  abbrev pub IsCallerOf : Shared T O R → Caller T O R g → Type 0
+  IsCallerOf s c = (c.seat.table_id ≡ s.table.shared.table_id) × (c.number < s.callers)
+
+  -- it has made no call and seen none
+  abbrev pub IsNewCaller : Shared T O R → ℕ → Caller T O R g → Type 0
+  IsNewCaller s n c = IsCallerOf s c × (number_of c ≡ n) × (made c ≡ []) × (seen c ≡ []) × (is_lost c ≡ false)
+
+  -- the first n callers, in the order of their numbers
+  pub record AreNewCallers (n : ℕ) (s : Shared T O R) (callers : List (Caller T O R g)) : Type 0 where
+    pub count : length callers ≡ n
+    pub each : (k : ℕ) (c : Caller T O R g) → k < n → c ≡ slice_index_or callers k c → IsNewCaller s k c
+
+  -- the calls that the teller had seen
+  abbrev pub told : Note T O R g → List (Entry O R)
+  told note = note.seat.me.0.seen
+
+  abbrev pub IsNoteOf : Shared T O R → Note T O R g → Type 0
+  IsNoteOf s note = note.seat.table_id ≡ s.table.shared.table_id

@@ -1,0 +1,100 @@
+//! The shared structure, its callers, and notes of what they have seen.
+ghost use Rattle.std.specs.Prelude.{◌≡◌, ◌+◌, ◌<◌, ◌≤◌, [], ◌∷◌, true, false};
+ghost use Rattle.shared_calls.specs.declared.view.Slot.TheVariants.{Vacant};
+ghost use Rattle.shared_calls.specs.Callers.{idle_view};
+
+use crate::combined::Combined;
+use crate::rule::CallRule;
+use crate::view::{Slot, View};
+use atomic_table::{Seat, Table};
+use std::alloc::Global;
+
+/// A structure that 1 to 32 callers share.
+pub struct Shared<T: Combined> {
+    pub(crate) table: Table<
+        Slot<T, T::Op, T::Reply>,
+        View<T::Op, T::Reply>,
+        u64,
+        CallRule<T>,
+        Global,
+    >,
+    pub(crate) callers: usize,
+    pub(crate) alloc: Global,
+    ghost sized: { (table.shared.table_id.words ≡ callers + 1) × (table.shared.table_id.slots ≡ callers + 1) },
+    ghost some: { (1 ≤ callers) × (callers ≤ 32) },
+    ghost key: { table.shared.key ≡ callers },
+}
+
+impl<T: Combined> Drop for Shared<T> {
+    fn drop(self) {
+        let Shared {
+            table,
+            callers: _,
+            alloc: _,
+        } = self;
+        drop(table);
+    }
+}
+
+/// One thread's access to a shared structure.
+pub struct Caller<T: Combined> {
+    pub(crate) seat: Seat<Slot<T, T::Op, T::Reply>, View<T::Op, T::Reply>>,
+    pub(crate) number: usize,
+    pub(crate) lost: bool,
+    ghost own: { (seat.me.0.from ≡ number) × (seat.me.0.to ≡ number + 1) },
+    ghost idle: { lost ≡ false → seat.me ≡ (idle_view number seat.me.0.made seat.me.0.seen, (number, Vacant) ∷ []) },
+    ghost told: { lost ≡ true → seat.me.0.lost ≡ true },
+}
+
+impl<T: Combined> Drop for Caller<T> {
+    fn drop(self) {
+        let Caller {
+            seat,
+            number: _,
+            lost: _,
+        } = self;
+        drop(seat);
+    }
+}
+
+/// What a caller had seen when it told it.
+pub struct Note<T: Combined> {
+    pub(crate) seat: Seat<Slot<T, T::Op, T::Reply>, View<T::Op, T::Reply>>,
+    ghost bare: { seat.me.1 ≡ [] },
+}
+
+impl<T: Combined> Drop for Note<T> {
+    fn drop(self) {
+        let Note { seat } = self;
+        drop(seat);
+    }
+}
+
+impl<T: Combined> Caller<T> {
+    pub(crate) fn into_seat(self) -> Seat<Slot<T, T::Op, T::Reply>, View<T::Op, T::Reply>>
+        ensures { (result.table_id ≡ self.seat.table_id) × (result.id ≡ self.seat.id) × (result.me ≡ self.seat.me) }
+    {
+        let Caller {
+            seat,
+            number: _,
+            lost: _,
+        } = self;
+        seat
+    }
+}
+
+impl<T: Combined> Note<T> {
+    pub(crate) fn into_seat(self) -> Seat<Slot<T, T::Op, T::Reply>, View<T::Op, T::Reply>>
+        ensures { (result.table_id ≡ self.seat.table_id) × (result.id ≡ self.seat.id) × (result.me ≡ self.seat.me) }
+    {
+        let Note { seat } = self;
+        seat
+    }
+}
+
+/// Memory ran out while a batch was served, and the structure is lost. The call was served before, with this reply, or
+/// it was not served.
+#[derive(Drop)]
+pub struct Lost<R> {
+    pub reply: Option<R>,
+}

@@ -11,6 +11,7 @@
 mod calls;
 mod combined;
 pub mod laws;
+mod notes;
 mod rule;
 mod share;
 mod shared;

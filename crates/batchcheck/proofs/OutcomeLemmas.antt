@@ -11,7 +11,7 @@ use Rattle.report_check.specs.declared.flaw.Flaw.{Flaw}
 use Rattle.batchcheck.specs.Words.{Files}
 use Rattle.batchcheck.specs.Lines.{verdict_text}
 use Rattle.batchcheck.specs.Outcomes.{HasJob, HasFault, IsJudged, Prints, HasCause, IsUnlessMemory, verdict_on, Holds, HasLawfulReport, Completes, IsAssured}
-use Rattle.batchcheck.specs.Code.{FailsPast}
+use Rattle.batchcheck.specs.Code.{AreHeld, HoldsRefusedJob, IsRefusedJob, FailsPast}
 use Rattle.batchcheck.specs.declared.verdict.CheckRefusal.TheVariants.{JobTooLong, ReportTooLong, Job}
 use Rattle.batchcheck.specs.declared.verdict.Verdict.{Verdict}
 use Rattle.batchcheck.specs.declared.verdict.Verdict.TheVariants as verdict
@@ -49,6 +49,10 @@ job_held held told job has is = subst (λ bytes. IsJobOf bytes job) (same_bytes 
 fault_held : (held : Option (List ℕ)) (told : List ℕ) (fault : JobFault) → (has : HasFault held fault) → held ≡ Some told → IsFaultOf told fault
 fault_held held told fault has is = subst (λ bytes. IsFaultOf bytes fault) (same_bytes 1048576 held told has.bytes has.read is) has.why
 
+-- bytes told of a file that are refused as a job
+refused_held : (held : Option (List ℕ)) (told : List ℕ) → held ≡ Some told → IsRefusedJob told → HoldsRefusedJob held
+refused_held held told is refused = rw is (refl, refused)
+
 module _ (laws : Laws) (files : Files) (held : List ℕ → Option (List ℕ)) where
   -- a text that was judged is the one held, and the job is
   judged_held : (job : JobValue) (text : List ℕ) (flaw : Option Flaw) → Holds files held job text → IsJudged files held flaw → IsFlawOf job text flaw
@@ -60,34 +64,34 @@ module _ (laws : Laws) (files : Files) (held : List ℕ → Option (List ℕ)) w
   module _ (R W : Type 0) (old new : Option (List ℕ)) where
     -- where no job was read, the bytes held are no job; where one was, they are not too many
     job_too_long : (ended : Verdict) → HasCause files held ended R W → Prints (IsJudged files held) ended old new
-        → (bytes : List ℕ) → held files.job ≡ Some bytes → ¬ R → 1048576 < length bytes → IsUnlessMemory ended (verdict.Refused JobTooLong)
-    job_too_long verdict.Lawful why line bytes told calm long = absurd (read_short 1048576 (held files.job) bytes line.0.has_job.bytes line.0.has_job.read told long)
-    job_too_long (verdict.Flawed flaw) why line bytes told calm long = absurd (read_short 1048576 (held files.job) bytes line.0.has_job.bytes line.0.has_job.read told long)
-    job_too_long verdict.Usage why line bytes told calm long = absurd why
-    job_too_long verdict.ReadFault why line bytes told calm long = absurd (calm why)
-    job_too_long (verdict.Refused JobTooLong) why line bytes told calm long = inl refl
-    job_too_long (verdict.Refused ReportTooLong) why line bytes told calm long = absurd (read_short 1048576 (held files.job) bytes why.0.1.bytes why.0.1.read told long)
-    job_too_long (verdict.Refused (Job fault)) why line bytes told calm long = absurd (read_short 1048576 (held files.job) bytes why.bytes why.read told long)
-    job_too_long verdict.WriteFault why line bytes told calm long = absurd (read_short 1048576 (held files.job) bytes line.1.has_job.bytes line.1.has_job.read told long)
-    job_too_long verdict.Memory why line bytes told calm long = inr refl
+        → (bytes : List ℕ) → held files.job ≡ Some bytes → (ended ≡ verdict.ReadFault → ⊥) → 1048576 < length bytes → IsUnlessMemory ended (verdict.Refused JobTooLong)
+    job_too_long verdict.Lawful why line bytes told reads long = absurd (read_short 1048576 (held files.job) bytes line.0.has_job.bytes line.0.has_job.read told long)
+    job_too_long (verdict.Flawed flaw) why line bytes told reads long = absurd (read_short 1048576 (held files.job) bytes line.0.has_job.bytes line.0.has_job.read told long)
+    job_too_long verdict.Usage why line bytes told reads long = absurd why
+    job_too_long verdict.ReadFault why line bytes told reads long = absurd (reads refl)
+    job_too_long (verdict.Refused JobTooLong) why line bytes told reads long = inl refl
+    job_too_long (verdict.Refused ReportTooLong) why line bytes told reads long = absurd (read_short 1048576 (held files.job) bytes why.0.1.bytes why.0.1.read told long)
+    job_too_long (verdict.Refused (Job fault)) why line bytes told reads long = absurd (read_short 1048576 (held files.job) bytes why.bytes why.read told long)
+    job_too_long verdict.WriteFault why line bytes told reads long = absurd (read_short 1048576 (held files.job) bytes line.1.has_job.bytes line.1.has_job.read told long)
+    job_too_long verdict.Memory why line bytes told reads long = inr refl
 
     -- bytes with a fault are no job
     no_job : (bytes : List ℕ) (fault : JobFault) (job : JobValue) → held files.job ≡ Some bytes → IsFaultOf bytes fault → HasJob (held files.job) job → ⊥
     no_job bytes fault job told has read = laws.not_both bytes job fault (job_held (held files.job) bytes job read told) has
 
     bad_job : (ended : Verdict) → HasCause files held ended R W → Prints (IsJudged files held) ended old new
-        → (bytes : List ℕ) (fault : JobFault) → held files.job ≡ Some bytes → ¬ R → length bytes ≤ 1048576 → IsFaultOf bytes fault
+        → (bytes : List ℕ) (fault : JobFault) → held files.job ≡ Some bytes → (ended ≡ verdict.ReadFault → ⊥) → length bytes ≤ 1048576 → IsFaultOf bytes fault
         → IsUnlessMemory ended (verdict.Refused (Job fault))
-    bad_job verdict.Lawful why line bytes fault told calm short has = absurd (no_job bytes fault line.0.job told has line.0.has_job)
-    bad_job (verdict.Flawed flaw) why line bytes fault told calm short has = absurd (no_job bytes fault line.0.job told has line.0.has_job)
-    bad_job verdict.Usage why line bytes fault told calm short has = absurd why
-    bad_job verdict.ReadFault why line bytes fault told calm short has = absurd (calm why)
-    bad_job (verdict.Refused JobTooLong) why line bytes fault told calm short has = absurd (held_short 1048576 (held files.job) bytes told why short)
-    bad_job (verdict.Refused ReportTooLong) why line bytes fault told calm short has = absurd (no_job bytes fault why.0.0 told has why.0.1)
-    bad_job (verdict.Refused (Job found)) why line bytes fault told calm short has =
+    bad_job verdict.Lawful why line bytes fault told reads short has = absurd (no_job bytes fault line.0.job told has line.0.has_job)
+    bad_job (verdict.Flawed flaw) why line bytes fault told reads short has = absurd (no_job bytes fault line.0.job told has line.0.has_job)
+    bad_job verdict.Usage why line bytes fault told reads short has = absurd why
+    bad_job verdict.ReadFault why line bytes fault told reads short has = absurd (reads refl)
+    bad_job (verdict.Refused JobTooLong) why line bytes fault told reads short has = absurd (held_short 1048576 (held files.job) bytes told why short)
+    bad_job (verdict.Refused ReportTooLong) why line bytes fault told reads short has = absurd (no_job bytes fault why.0.0 told has why.0.1)
+    bad_job (verdict.Refused (Job found)) why line bytes fault told reads short has =
         inl (ap (λ (f : JobFault). verdict.Refused (Job f)) (laws.one_fault bytes found fault (fault_held (held files.job) bytes found why told) has))
-    bad_job verdict.WriteFault why line bytes fault told calm short has = absurd (no_job bytes fault line.1.job told has line.1.has_job)
-    bad_job verdict.Memory why line bytes fault told calm short has = inr refl
+    bad_job verdict.WriteFault why line bytes fault told reads short has = absurd (no_job bytes fault line.1.job told has line.1.has_job)
+    bad_job verdict.Memory why line bytes fault told reads short has = inr refl
 
     -- an accepted job is not refused
     not_refused : (job : JobValue) (text : List ℕ) (fault : JobFault) → Holds files held job text → HasFault (held files.job) fault → ⊥
@@ -121,17 +125,21 @@ module _ (laws : Laws) (files : Files) (held : List ℕ → Option (List ℕ)) w
     judged_so verdict.WriteFault why line job text flaw holds short is reads writes = absurd (writes refl)
     judged_so verdict.Memory why line job text flaw holds short is reads writes = inr refl
 
+    -- no verdict is a read fault where no read failed
+    calm_reads : (ended : Verdict) → HasCause files held ended R W → ¬ R → ended ≡ verdict.ReadFault → ⊥
+    calm_reads ended why calm read = calm (subst (λ (v : Verdict). HasCause files held v R W) read why)
+
     calm_judged : (ended : Verdict) → HasCause files held ended R W → Prints (IsJudged files held) ended old new
         → (job : JobValue) (text : List ℕ) (flaw : Option Flaw) → Holds files held job text → length text ≤ 8388608 → IsFlawOf job text flaw
         → ¬ R → ¬ W → IsUnlessMemory ended (verdict_on flaw)
     calm_judged ended why line job text flaw holds short is calm calm' =
         judged_so ended why line job text flaw holds short is
-        (λ read. calm (subst (λ (v : Verdict). HasCause files held v R W) read why)) (λ write. calm' (subst (λ (v : Verdict). HasCause files held v R W) write why))
+        (calm_reads ended why calm) (λ write. calm' (subst (λ (v : Verdict). HasCause files held v R W) write why))
 
     pub completes : (ended : Verdict) → HasCause files held ended R W → Prints (IsJudged files held) ended old new → Completes files held ended R W
     completes ended why line = record {
-      job_too_long = λ bytes told calm long. job_too_long ended why line bytes told calm long;
-      bad_job = λ bytes fault told calm short has. bad_job ended why line bytes fault told calm short has;
+      job_too_long = λ bytes told calm long. job_too_long ended why line bytes told (calm_reads ended why calm) long;
+      bad_job = λ bytes fault told calm short has. bad_job ended why line bytes fault told (calm_reads ended why calm) short has;
       report_too_long = λ job text holds calm long. report_too_long ended why line job text holds calm long;
       lawful = λ job text holds calm calm' short has. calm_judged ended why line job text None holds short (laws.no_flaw holds.bytes text job holds.accepted has) calm calm';
       flawed = λ job text flaw holds calm calm' short is. calm_judged ended why line job text (Some flaw) holds short is calm calm';
@@ -145,12 +153,15 @@ module _ (laws : Laws) (files : Files) (held : List ℕ → Option (List ℕ)) w
         omega (arith, within, past.2, ap (λ f. length (verdict_text f)) same)
 
     pub assured : (ended : Verdict) (never_fails : Bool) (room : ℕ) → HasCause files held ended R W → Prints (IsJudged files held) ended old new
-        → (IsTrue never_fails → IsSome (held files.job) → IsSome (held files.report) → ended ≡ verdict.ReadFault → ⊥)
+        → (IsTrue never_fails → AreHeld files held → ended ≡ verdict.ReadFault → ⊥)
         → FailsPast (IsJudged files held) ended room → IsAssured files held ended never_fails room
-    assured ended never_fails room why line reads past job text flaw holds short is never within =
-        judged_so ended why line job text flaw holds short is
-        (reads never (some_held (held files.job) holds.bytes holds.told) (some_held (held files.report) text holds.report_told))
-        (λ write. fits job text flaw room holds is within (subst (λ (v : Verdict). FailsPast (IsJudged files held) v room) write past))
+    assured ended never_fails room why line reads past = record {
+      job_too_long = λ bytes told never long. job_too_long ended why line bytes told (reads never (inl (refused_held (held files.job) bytes told (inl long)))) long;
+      bad_job = λ bytes fault told never short has. bad_job ended why line bytes fault told (reads never (inl (refused_held (held files.job) bytes told (inr (fault, has))))) short has;
+      judged = λ job text flaw holds never short is within. judged_so ended why line job text flaw holds short is
+          (reads never (inr (some_held (held files.job) holds.bytes holds.told, some_held (held files.report) text holds.report_told)))
+          (λ write. fits job text flaw room holds is within (subst (λ (v : Verdict). FailsPast (IsJudged files held) v room) write past));
+    }
 
 -- what holds of the files that the words name holds of all files that they name
 pub named : (words : Option Files) (files : Files) (Owed : Files → Type 0) → Some files ≡ words → Owed files → ForSome words Owed

@@ -1,10 +1,12 @@
--- What only the code and its proofs cite: the files of a check, why one was not read, and the verdict of a run by its
--- end.
-use Rattle.std.specs.Prelude.{ℕ, ◌<◌, List, [], length, Option, IfSome}
+-- What only the code and its proofs cite: the files of a check, when they are held, why one was not read, and the verdict
+-- of a run by its end.
+use Rattle.std.specs.Prelude.{ℕ, ◌<◌, ◌⊎◌, List, [], length, Option, IfSome, IsSome}
 use Rattle.program_io.specs.declared.program.Stop.{Stop}
 use Rattle.program_io.specs.declared.program.Stop.TheVariants as stop
 use Rattle.program_io.specs.declared.program.End.{End}
 use Rattle.program_io.specs.declared.program.End.TheVariants.{Done, Stopped, WriteFault}
+use Rattle.job_lang.specs.Language.{IsFaultOf}
+use Rattle.job_syntax.specs.declared.fault.JobFault.{JobFault}
 use Rattle.report_check.specs.declared.flaw.Flaw.{Flaw}
 use Rattle.batchcheck.specs.Words.{Files}
 use Rattle.batchcheck.specs.Lines.{verdict_text, verdict_line}
@@ -33,6 +35,18 @@ StopsReport stop.ReadFault held ReadsFailed = ReadsFailed
 StopsReport (stop.Refused ReportTooLong) held ReadsFailed = IfSome held (λ text. 8388608 < length text)
 StopsReport (stop.Refused _) held ReadsFailed = ⊥
 StopsReport stop.Memory held ReadsFailed = Unit {0}
+
+-- the bytes held for a job are refused: they are too many, or have a fault
+abbrev pub IsRefusedJob : List ℕ → Type 0
+IsRefusedJob bytes = (1048576 < length bytes) ⊎ ((fault : JobFault) × IsFaultOf bytes fault)
+
+-- the bytes of a job are held, and refused
+abbrev pub HoldsRefusedJob : Option (List ℕ) → Type 0
+HoldsRefusedJob held = IsSome held × IfSome held IsRefusedJob
+
+-- each file that a check reads is held: the job's, and the report's too unless the job is refused
+abbrev pub AreHeld : Files → (List ℕ → Option (List ℕ)) → Type 0
+AreHeld files held = HoldsRefusedJob (held files.job) ⊎ (IsSome (held files.job) × IsSome (held files.report))
 
 -- the verdict of a run that stopped before it judged the text
 abbrev pub stopped : Stop CheckRefusal → Verdict

@@ -109,9 +109,12 @@ pub record Completes (files : Files) (held : List ℕ → Option (List ℕ)) (en
   pub flawed : (job : JobValue) (text : List ℕ) (flaw : Flaw) → Holds files held job text → ¬ ReadsFailed → ¬ WritesFailed
       → length text ≤ 8388608 → IsFlawOf job text (Some flaw) → IsUnlessMemory ended (verdict.Flawed flaw)
 
--- Where the shelf never fails and holds a job and a text, and what is printed of its flaw is within the room that out has
--- left, the verdict is the one on this flaw, unless memory runs out.
-abbrev pub IsAssured : Files → (List ℕ → Option (List ℕ)) → Verdict → Bool → ℕ → Type 0
-IsAssured files held ended never_fails room =
-    (job : JobValue) (text : List ℕ) (flaw : Option Flaw) → Holds files held job text → length text ≤ 8388608 → IsFlawOf job text flaw
-    → IsTrue never_fails → length (verdict_text flaw) ≤ room → IsUnlessMemory ended (verdict_on flaw)
+-- Where the shelf never fails, and what is printed of a flaw is within the room that out has left, the verdict is the one
+-- that the bytes held call for, unless memory runs out. A job that is refused decides whatever is held of the report.
+pub record IsAssured (files : Files) (held : List ℕ → Option (List ℕ)) (ended : Verdict) (never_fails : Bool) (room : ℕ) : Type 0 where
+  pub job_too_long : (bytes : List ℕ) → held files.job ≡ Some bytes → IsTrue never_fails
+      → 1048576 < length bytes → IsUnlessMemory ended (verdict.Refused JobTooLong)
+  pub bad_job : (bytes : List ℕ) (fault : JobFault) → held files.job ≡ Some bytes → IsTrue never_fails
+      → length bytes ≤ 1048576 → IsFaultOf bytes fault → IsUnlessMemory ended (verdict.Refused (Job fault))
+  pub judged : (job : JobValue) (text : List ℕ) (flaw : Option Flaw) → Holds files held job text → IsTrue never_fails
+      → length text ≤ 8388608 → IsFlawOf job text flaw → length (verdict_text flaw) ≤ room → IsUnlessMemory ended (verdict_on flaw)

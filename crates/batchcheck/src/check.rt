@@ -8,11 +8,12 @@ ghost use Rattle.program_io.specs.Reading.{WasRead};
 ghost use Rattle.report_check.specs.Flaws.{IsFlawOf};
 ghost use Rattle.batchcheck.specs.Lines.{verdict_text};
 ghost use Rattle.batchcheck.specs.Outcomes.{HasJob, IsJudged, Refuses};
-ghost use Rattle.batchcheck.specs.Code.{files_in, end_line, StopsJob, StopsReport};
+ghost use Rattle.batchcheck.specs.Code.{files_in, end_line, AreHeld, StopsJob, StopsReport};
 
 use crate::verdict::{CheckRefusal, Verdict, stopped};
 use crate::words::Check;
 use bt_io::{ReadErr, Shelf};
+use job_lang::laws::texts_have_one_job_or_fault;
 use job_lang::{JobErr, read_job};
 use program_io::{End, Line, Program, Stop, read_file};
 use report_check::{Flaw, check};
@@ -139,7 +140,7 @@ impl<'a> Program for Check<'a> {
 
     ghost may_read = { λ s may. IsTrue (may s.job.now) × IsTrue (may s.report.now) };
 
-    ghost are_held = { λ s held. IsSome (held s.job.now) × IsSome (held s.report.now) };
+    ghost are_held = { λ s. AreHeld (files_in s) };
 
     ghost answers = { λ s held flaw words. IsJudged (files_in s) held flaw × (words ≡ verdict_text flaw) };
 
@@ -152,6 +153,7 @@ impl<'a> Program for Check<'a> {
         alloc: Global,
         shelf: &mut I,
     ) -> Result<(Option<Flaw>, Vec<u8>), Stop<CheckRefusal>> {
+        texts_have_one_job_or_fault();
         let job = read_job_of(alloc, shelf, self.job)?;
         let text = read_text_of(alloc, shelf, self.report)?;
         judge(alloc, &job, text.as_slice())

@@ -1,12 +1,12 @@
 //! The whole program: from the words and a shelf to the verdict.
-ghost use Rattle.std.specs.Prelude.{◌≡◌, ◌↔◌, ◌<◌, IsNone, IsTrue, IsSome};
+ghost use Rattle.std.specs.Prelude.{◌≡◌, ◌↔◌, ◌<◌, IsNone, IsTrue};
 ghost use Rattle.std.specs.Option.{ForSome};
 ghost use Rattle.bt_io.specs.Causes.{Rose};
 ghost use Rattle.program_io.specs.Lines.{Tells};
 ghost use Rattle.batchcheck.specs.Words.{files_of, spelled, MayRead};
 ghost use Rattle.batchcheck.specs.Lines.{verdict_line, verdict_without_words};
 ghost use Rattle.batchcheck.specs.Outcomes.{IsJudged, Judges, Prints, HasCause, Completes, IsAssured};
-ghost use Rattle.batchcheck.specs.Code.{files_in, FailsPast};
+ghost use Rattle.batchcheck.specs.Code.{files_in, AreHeld, FailsPast};
 
 use crate::laws::{accepted_jobs_have_one_flaw, lawful_texts_have_no_flaw};
 use crate::verdict::{Verdict, stopped};
@@ -32,8 +32,7 @@ fn check_files<I: Shelf, O: Sink, E: Sink>(
     ensures cause { HasCause (files_in check.now) (I.held shelf.old) result
         (Rose (I.faults shelf.old) (I.faults shelf.new)) (Rose (O.faults out.old) (O.faults out.new)) }
     ensures reads { IsTrue (I.never_fails shelf.old)
-        → IsSome (I.held shelf.old check.now.job.now)
-        → IsSome (I.held shelf.old check.now.report.now)
+        → AreHeld (files_in check.now) (I.held shelf.old)
         → result ≡ Verdict.ReadFault
         → ⊥ }
     ensures writes { FailsPast (IsJudged (files_in check.now) (I.held shelf.old)) result (O.room_left out.old) }

@@ -27,7 +27,7 @@ const NONE: u64 = 99;
 
 /// The words of a run, the call of the shelf and the write of out that fails, the exit number, the lines of which out takes
 /// a front, the bytes of that front, and what err took. Call 0 of the shelf chooses the file, each other one gives at most
-/// five bytes of it, and the last one none. A write takes at most 60 bytes.
+/// five bytes of it, and the last one none. A write takes at most 40 bytes.
 type Run = (
     &'static [&'static str],
     u64,
@@ -46,20 +46,21 @@ const RUNS: &[Run] = &[
     (STEP, 4, NONE, 3, ONE_ADD, 0, READ_FAULT),
     (STEP, 5, NONE, 0, ONE_ADD, 126, b""),
     (STEP, NONE, 0, 5, ONE_ADD, 0, WRITE_FAULT),
-    (STEP, NONE, 1, 5, ONE_ADD, 60, WRITE_FAULT),
-    (STEP, NONE, 2, 5, ONE_ADD, 120, WRITE_FAULT),
-    (STEP, NONE, 3, 0, ONE_ADD, 126, b""),
+    (STEP, NONE, 1, 5, ONE_ADD, 40, WRITE_FAULT),
+    (STEP, NONE, 2, 5, ONE_ADD, 80, WRITE_FAULT),
+    (STEP, NONE, 3, 5, ONE_ADD, 120, WRITE_FAULT),
+    (STEP, NONE, 4, 0, ONE_ADD, 126, b""),
     (RUN, 0, NONE, 3, ONE_ADD, 0, READ_FAULT),
     (RUN, 1, NONE, 3, ONE_ADD, 0, READ_FAULT),
     (RUN, 4, NONE, 3, ONE_ADD, 0, READ_FAULT),
     (RUN, 5, NONE, 0, ONE_ADD, 126, b""),
     (RUN, NONE, 0, 5, ONE_ADD, 0, WRITE_FAULT),
-    (RUN, NONE, 2, 5, ONE_ADD, 120, WRITE_FAULT),
-    (RUN, NONE, 3, 0, ONE_ADD, 126, b""),
+    (RUN, NONE, 3, 5, ONE_ADD, 120, WRITE_FAULT),
+    (RUN, NONE, 4, 0, ONE_ADD, 126, b""),
     (SMALLEST, 0, 0, 5, SMALLEST_SUMMARY, 0, WRITE_FAULT),
-    (SMALLEST, 0, 1, 5, SMALLEST_SUMMARY, 60, WRITE_FAULT),
-    (SMALLEST, 0, 2, 5, SMALLEST_SUMMARY, 120, WRITE_FAULT),
-    (SMALLEST, 0, 3, 0, SMALLEST_SUMMARY, 124, b""),
+    (SMALLEST, 0, 1, 5, SMALLEST_SUMMARY, 40, WRITE_FAULT),
+    (SMALLEST, 0, 3, 5, SMALLEST_SUMMARY, 120, WRITE_FAULT),
+    (SMALLEST, 0, 4, 0, SMALLEST_SUMMARY, 124, b""),
 ];
 
 /// Whether a run ends so.
@@ -68,7 +69,7 @@ fn ends_so<R: Threads + Wait + Sync>(rt: &R, alloc: Global, row: &Run) -> Result
     let words = words_of(alloc, words)?;
     let files = files_of(alloc, &[("-", b"counter add 5")])?;
     let mut shelf = MemShelf::make(files, 5, vec![in alloc; read]?);
-    let mut out = MemSink::make(alloc, 999, 60, vec![in alloc; write]?)?;
+    let mut out = MemSink::make(alloc, 999, 40, vec![in alloc; write]?)?;
     let mut err = MemSink::make(alloc, 999, 999, Vec::new(alloc))?;
     let outcome = batchrun(
         rt,

@@ -4,23 +4,22 @@ ghost use Rattle.std.specs.Prelude.{◌≡◌};
 use crate::op::BulkOp;
 use std::marker::Model;
 
-/// A worker's call of the set. Contracts see its worker and its operation. The operation is borrowed, since it is too
-/// large to be copied.
+/// A worker's call of the set. Contracts see its worker and its operation.
 #[derive(Drop)]
-pub struct BulkCall<'a> {
+pub struct BulkCall {
     pub worker: u32,
-    pub what: &'a BulkOp,
+    pub what: BulkOp,
 }
 
-impl<'a> Model for BulkCall<'a> {
+impl Model for BulkCall {
     ghost use Rattle.bulk_calls.specs.Views.{CallView};
 
     ghost Value = { CallView };
 
-    ghost view = { λ call. record { worker = call.worker; what = call.what.now } };
+    ghost view = { λ call. record { worker = call.worker; what = call.what } };
 }
 
-impl<'a> BulkCall<'a> {
+impl BulkCall {
     /// The worker that calls.
     pub fn worker(&self) -> u32
         ensures { result ≡ self.now.worker }
@@ -29,9 +28,9 @@ impl<'a> BulkCall<'a> {
     }
 
     /// The operation.
-    pub fn what(&self) -> &'a BulkOp
+    pub fn what(&self) -> &BulkOp
         ensures { result.now ≡ self.now.what }
     {
-        self.what
+        &self.what
     }
 }

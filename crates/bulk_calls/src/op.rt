@@ -13,8 +13,8 @@ pub enum BulkKind {
 
 /// One kind of operation, done with up to 64 keys one after another. Contracts see its kind and the list of its keys.
 ///
-/// The keys are the first `count` of `keys`. A value takes no memory from an allocator, and is not copied.
-#[derive(Drop)]
+/// The keys are the first `count` of `keys`. A value takes no memory from an allocator.
+#[derive(Clone, Copy)]
 pub struct BulkOp {
     pub kind: BulkKind,
     pub keys: [u32; 64],

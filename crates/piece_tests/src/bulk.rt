@@ -170,7 +170,7 @@ fn a_literal_call_has_its_keys_in_front(rt: HostRuntime) -> Result<(), Fail> {
     };
     let calls = [BulkCall {
         worker: 40,
-        what: &what,
+        what,
     }];
     let set = BulkSet::new(rt.alloc())?;
     let (_set, replies) = set.batch(&rt, rt.alloc(), &calls)?;

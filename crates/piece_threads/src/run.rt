@@ -24,7 +24,8 @@ pub fn threads_for(keys: usize) -> usize
     (1 + keys / KEYS_A_THREAD).min(MOST_THREADS)
 }
 
-/// Runs bundles of pieces, each in a thread of its own where there are several and a thread can be started.
+/// Runs bundles of pieces by std's parallel map: where there are several, each in a thread of its own if it can be
+/// started.
 fn run_bundles<R: Threads + Sync, I: Send + Drop, O: Send + Drop, P: Pieces<I, O> + Send + Sync>(
     rt: &R,
     alloc: Global,
@@ -44,8 +45,8 @@ fn run_bundles<R: Threads + Sync, I: Send + Drop, O: Send + Drop, P: Pieces<I, O
     )
 }
 
-/// Works on pieces in at most `threads` threads at once, each of which works on consecutive pieces one after another.
-/// With one thread, or at most one piece, all work is done on the caller's thread.
+/// Works on pieces in at most `threads` bundles of consecutive ones, by std's parallel map where there are two pieces or
+/// more. One bundle starts no thread: it is worked on in the caller's.
 pub fn run_pieces<R: Threads + Sync, I: Send + Drop, O: Send + Drop, P: Pieces<I, O> + Send + Sync>(
     rt: &R,
     alloc: Global,
@@ -55,10 +56,10 @@ pub fn run_pieces<R: Threads + Sync, I: Send + Drop, O: Send + Drop, P: Pieces<I
     requires { 0 < threads }
     ensures { IfOk result (λ outs. AllMeet P.meets ins.items outs.items) }
 {
-    let size = ins.len().div_ceil(threads);
-    if ins.len() <= size {
+    if ins.len() <= 1 {
         return run_in_turn::<I, O, P>(alloc, ins);
     }
+    let size = ins.len().div_ceil(threads);
     let bundles = bundles_of(alloc, ins, size)?;
     let results = run_bundles::<R, I, O, P>(rt, alloc, bundles)?;
     join_outs(alloc, results)

@@ -10,6 +10,7 @@
 pub mod cut;
 #[doc(hidden)]
 pub mod join;
+pub mod laws;
 #[doc(hidden)]
 pub mod search;
 pub mod tree;

@@ -1,5 +1,6 @@
 //! The map, and how it serves a batch: cut, run the pieces, join the ranges, merge the replies.
-ghost use Rattle.std.specs.Prelude.{◌≡◌, ◌<◌, [], IfOk};
+ghost use Rattle.std.specs.Prelude.{◌≡◌, ◌<◌, [], IfOk, IsOk};
+ghost use Rattle.rank_nodes.specs.Maps.{Ascends};
 ghost use Rattle.batched_map.specs.Maps.{map_after, map_replies, operations};
 ghost use Rattle.batched_map.specs.Batches.{AreMapBatch};
 
@@ -35,17 +36,28 @@ impl Model for RankBook {
 
 impl RankBook {
     /// A map without entries.
+    ///
+    /// Memory: none.
     pub fn new(alloc: Global) -> Result<RankBook, AllocError>
-        ensures { IfOk result (λ book. book ≡ []) }
+        ensures opening { IfOk result (λ book. book ≡ []) }
+        ensures sure { IsOk result }
     {
         Ok(RankBook {
             tree: RankTree::new(alloc),
         })
     }
 
+    /// A lemma for proofs, which does nothing: the keys strictly ascend.
+    pub fn keys_ascend(&self)
+        ensures { Ascends self.now }
+    {
+        self.tree.keys_ascend();
+    }
+
     /// Serves a batch, and returns the replies in the order of its calls. The map is dropped when memory runs out.
     ///
-    /// A batch has too few calls for a second thread by `threads_for`, so it is served on the caller's thread.
+    /// A batch has too few calls for a second thread by `threads_for`, so its pieces are one bundle, which is run on the
+    /// caller's thread.
     pub fn batch<R: Threads + Sync>(
         self,
         rt: &R,

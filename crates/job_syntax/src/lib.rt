@@ -1,8 +1,7 @@
 //! The syntax of the job language: the items that a text writes, or the fault that a reader meets in it from left to
 //! right. `lexer` makes words of the bytes, each with its line. `parser` makes items of the words in one pass, with a
 //! stack of open blocks and the lets that they show: `read_items` gives the items that the grammar gives the words, or
-//! their fault of reading. `laws` says which tokens name an object, and that the open blocks show what the words define
-//! that a use sees.
+//! their fault of reading. `laws` says which tokens name an object.
 //!
 //! `job_lang`, above, defines what the items mean and makes their job. In `specs/` the rules stand at the top, and what
 //! only the code and its proofs cite in `Code/`.

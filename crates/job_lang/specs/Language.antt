@@ -43,8 +43,8 @@ pub record HasArgumentOutOfRange (text : List ℕ) (line : ℕ) : Type 0 where
   pub where_it_is : argument_line (words_on_lines text) items ≡ Some line
 
 -- The text has this fault. The first in this order counts: a forbidden byte; a fault of reading, which is a token or
--- the end of the text that does not fit, a bad number, or too deep a nesting; too many leaves; an argument out of
--- range.
+-- the end of the text that does not fit, a bad number, too deep a nesting, or a use of a name that sees no let of it;
+-- too many leaves; an argument out of range.
 abbrev pub IsFaultOf : List ℕ → JobFault → Type 0
 IsFaultOf text (fault.Byte line) = forbidden_line text ≡ Some line
 IsFaultOf text (fault.Leaves line) = HasTooManyLeaves text line

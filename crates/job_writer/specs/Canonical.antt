@@ -11,7 +11,13 @@ use Rattle.seq_objects.specs.Words.{call_words, op_words}
 use Rattle.sp_order.specs.Precedence.{Tree, leaf, seq, par, leaves}
 use Rattle.sp_order.specs.Jobs.{JobValue}
 use Rattle.sp_order.specs.Sources.{has_argument}
-use Rattle.job_writer.specs.declared.writer.written.WrittenLeaf.{WrittenLeaf}
+
+-- a leaf as it is written: its number, whether some leaf has it as its source, its act, and its own source
+pub record WrittenLeaf : Type 0 where
+  pub number : ℕ
+  pub named : Bool
+  pub act : Act
+  pub source : Option ℕ
 
 -- whether a source is this leaf
 abbrev pub is_leaf : ℕ → Option ℕ → Bool

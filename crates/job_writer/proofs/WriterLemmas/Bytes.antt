@@ -20,9 +20,8 @@ use Rattle.seq_objects.specs.declared.op.Op.TheVariants.{CounterAdd, Push, Pop, 
 use Rattle.sp_order.specs.Precedence.{Tree, leaf, seq, par, leaves}
 use Rattle.job_lang.specs.ActNumbers.{op_number, act_number, IsSmall}
 use Rattle.job_writer.specs.Code.Smalls.{IsSmallLeaf, AreSmallLeaves}
-use Rattle.job_writer.specs.declared.writer.written.WrittenLeaf.{WrittenLeaf}
 use Rattle.job_syntax.specs.Text.{is_allowed, is_hash, bare, forbidden_line_from, line_behind}
-use Rattle.job_writer.specs.Canonical.{name_text, act_text, let_text, leaf_text, tree_text}
+use Rattle.job_writer.specs.Canonical.{WrittenLeaf, name_text, act_text, let_text, leaf_text, tree_text}
 use Rattle.job_lang.proofs.EachOf.{each_of_first, each_of_rest}
 use Rattle.job_writer.proofs.WriterLemmas.Decimals.{each_byte}
 use Rattle.job_writer.proofs.WriterLemmas.Kinds.{IsNamedAt, each_spelled}

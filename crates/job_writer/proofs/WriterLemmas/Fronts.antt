@@ -1,9 +1,8 @@
 -- The text of a shape depends only on as many leaves as it has leaves.
 use Rattle.std.proofs.Common.{◌≡◌, ℕ, ◌+◌, List, [], ◌∷◌, ◌++◌, take, drop, codes, refl, sym, ap, arith, append_assoc}
 use Rattle.std.proofs.lemmas.List.{drop-take, take-take}
-use Rattle.job_writer.specs.declared.writer.written.WrittenLeaf.{WrittenLeaf}
 use Rattle.sp_order.specs.Precedence.{Tree, leaf, seq, par, leaves}
-use Rattle.job_writer.specs.Canonical.{tree_text}
+use Rattle.job_writer.specs.Canonical.{WrittenLeaf, tree_text}
 use Rattle.job_writer.specs.Code.Sides.{sides_text}
 
 pub front_text : (names : List (List ℕ)) (tree : Tree) (written : List WrittenLeaf) → tree_text names tree (take (leaves tree) written) ≡ tree_text names tree written

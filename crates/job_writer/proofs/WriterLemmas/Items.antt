@@ -26,7 +26,7 @@ use Rattle.sp_order.specs.Objects.{number_in as act_number_in}
 use Rattle.job_names.specs.declared.name.Name.{Name}
 use Rattle.job_names.specs.Names.{name_of}
 use Rattle.sp_order.specs.Sources.{has_argument}
-use Rattle.job_writer.specs.declared.writer.written.WrittenLeaf.{WrittenLeaf}
+use Rattle.job_writer.specs.Canonical.{WrittenLeaf}
 use Rattle.job_lang.proofs.EachOf.{each_of_first, each_of_rest}
 use Rattle.job_writer.proofs.WriterLemmas.Names.{leaf_name}
 use Rattle.job_writer.proofs.WriterLemmas.Again.{numbered_back, back_again}

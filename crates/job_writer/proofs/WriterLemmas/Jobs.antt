@@ -19,7 +19,6 @@ use Rattle.sp_order.specs.Jobs.{JobValue, IsJob}
 use Rattle.job_syntax.specs.declared.lexer.word.WordOnLine.{WordOnLine}
 use Rattle.job_lang.specs.ActNumbers.{op_number, IsSmall, AreSmall}
 use Rattle.job_writer.specs.Code.Smalls.{AreSmallLeaves}
-use Rattle.job_writer.specs.declared.writer.written.WrittenLeaf.{WrittenLeaf}
 use Rattle.job_lang.specs.Meaning.{sources_in}
 use Rattle.sp_order.specs.Precedence.{IsBeforeFrom}
 use Rattle.sp_order.specs.Sources.{AreSources}
@@ -33,7 +32,7 @@ use Rattle.job_syntax.specs.Grammar.{nothing}
 use Rattle.job_syntax.specs.Faults.{has_good_numbers}
 use Rattle.job_lang.specs.Limits.{first_line, depends_on_copy}
 use Rattle.job_lang.specs.Language.{IsJobOf}
-use Rattle.job_writer.specs.Canonical.{is_source, written_from, written_leaves, tree_text, shape_text, canonical_text}
+use Rattle.job_writer.specs.Canonical.{WrittenLeaf, is_source, written_from, written_leaves, tree_text, shape_text, canonical_text}
 use Rattle.seq_objects.proofs.Elements.{each_unmapped}
 use Rattle.job_writer.proofs.WriterLemmas.Items.{AreGood, AreWell, acts_of, sources_of, tree_items, job_again, tree_count, tree_nesting, tree_range_flags, tree_fits, tree_good}
 use Rattle.job_writer.proofs.WriterLemmas.Bytes.{ArePlain, bare_same, none_forbidden, plain_append, plain_tree, short_tree, IsFew, IsUnnamed, plain_short_tree}

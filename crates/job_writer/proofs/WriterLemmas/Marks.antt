@@ -5,8 +5,7 @@ use Rattle.seq_objects.specs.declared.act.Act.{Act}
 use Rattle.seq_objects.specs.declared.act.Act.TheVariants.{Call}
 use Rattle.sp_order.specs.Precedence.{Tree}
 use Rattle.sp_order.specs.Sources.{AreSources}
-use Rattle.job_writer.specs.declared.writer.written.WrittenLeaf.{WrittenLeaf}
-use Rattle.job_writer.specs.Canonical.{is_leaf, is_source, written_from}
+use Rattle.job_writer.specs.Canonical.{WrittenLeaf, is_leaf, is_source, written_from}
 use Rattle.job_syntax.proofs.ParserLemmas.OpenStacks.{or_assoc}
 use Rattle.std.proofs.lemmas.Option.{slice_get_within}
 

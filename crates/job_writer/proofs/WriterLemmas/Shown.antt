@@ -13,8 +13,7 @@ use Rattle.sp_order.specs.Precedence.{Tree, leaf, seq, par, leaves}
 use Rattle.job_syntax.specs.Grammar.{Items, nothing, leaf_then, seq_block, par_block, ◌then◌, UnaryOp, counter_add, stack_push, tree_insert, tree_remove, tree_find, tree_next, queue_insert, Leaf, with_argument}
 use Rattle.job_syntax.specs.Code.Shown.{OpenBlock, lets_of, lets_behind, scope_at, is_shown, IsShownLeaf, AreShown}
 use Rattle.job_syntax.proofs.ParserLemmas.Shown.{in_first, in_second, own_from}
-use Rattle.job_writer.specs.declared.writer.written.WrittenLeaf.{WrittenLeaf}
-use Rattle.job_writer.specs.Canonical.{is_source}
+use Rattle.job_writer.specs.Canonical.{WrittenLeaf, is_source}
 use Rattle.job_writer.proofs.WriterLemmas.Items.{name_at, call_leaf, said, leaf_of_act, given_name, leaf_of_written, tree_items, left_length, right_length}
 use Rattle.job_writer.proofs.WriterLemmas.Names.{leaf_name}
 use Rattle.job_writer.proofs.WriterLemmas.Sources.{AreAt, at_take, at_drop, Sourced, IsNamedIn, leaf_range}

@@ -17,10 +17,9 @@ use Rattle.job_syntax.specs.declared.lexer.word.Word.TheVariants.{Number, Named}
 use Rattle.sp_order.specs.Precedence.{Tree, leaf, seq, par, leaves, IsLeafOf, IsBeforeFrom}
 use Rattle.sp_order.specs.Sources.{has_argument}
 use Rattle.job_syntax.specs.Grammar.{Items, nothing, Leaf}
-use Rattle.job_writer.specs.declared.writer.written.WrittenLeaf.{WrittenLeaf}
 use Rattle.job_lang.specs.Counts.{count}
 use Rattle.job_lang.specs.Meaning.{Known, leaf_known, source_of, known_by, known_behind, known_next, sources_in}
-use Rattle.job_writer.specs.Canonical.{is_leaf, is_source, written_from}
+use Rattle.job_writer.specs.Canonical.{WrittenLeaf, is_leaf, is_source, written_from}
 use Rattle.job_lang.proofs.EachOf.{each_of_first, each_of_rest}
 use Rattle.job_lang.proofs.ExpandLemmas.Joined.{before_is_smaller}
 use Rattle.job_lang.proofs.ExpandLemmas.Sourcing.{HasLeaf}

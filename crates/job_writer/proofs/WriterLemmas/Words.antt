@@ -19,12 +19,11 @@ use Rattle.job_syntax.specs.declared.lexer.word.Word.{Word}
 use Rattle.job_syntax.specs.declared.lexer.word.Word.TheVariants as word
 use Rattle.job_lang.specs.ActNumbers.{op_number, act_number, IsSmall}
 use Rattle.job_writer.specs.Code.Smalls.{IsSmallLeaf}
-use Rattle.job_writer.specs.declared.writer.written.WrittenLeaf.{WrittenLeaf}
 use Rattle.job_syntax.specs.Text.{tokens_from, begins_in_chunk}
 use Rattle.job_syntax.specs.Words.{word_on_line}
 use Rattle.job_syntax.specs.Grammar.{Items, nothing, items_words, leaf_words}
 use Rattle.job_syntax.specs.Faults.{words_of}
-use Rattle.job_writer.specs.Canonical.{name_text, act_text, let_text, leaf_text, tree_text}
+use Rattle.job_writer.specs.Canonical.{WrittenLeaf, name_text, act_text, let_text, leaf_text, tree_text}
 use Rattle.job_writer.proofs.WriterLemmas.Decimals.{chunk_token, decimal_token, decimal_word}
 use Rattle.job_lang.proofs.EachOf.{each_of_first, each_of_rest}
 use Rattle.job_lang.proofs.LimitLemmas.SmallArguments.{small_argument}

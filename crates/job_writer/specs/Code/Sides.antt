@@ -1,8 +1,7 @@
 -- The text of the two sides of a block, in braces.
 use Rattle.std.specs.Prelude.{ℕ, List, ◌++◌, drop, codes}
 use Rattle.sp_order.specs.Precedence.{Tree, leaves}
-use Rattle.job_writer.specs.declared.writer.written.WrittenLeaf.{WrittenLeaf}
-use Rattle.job_writer.specs.Canonical.{tree_text}
+use Rattle.job_writer.specs.Canonical.{WrittenLeaf, tree_text}
 
 abbrev pub sides_text : List (List ℕ) → Tree → Tree → List WrittenLeaf → List ℕ
 sides_text names left right written =

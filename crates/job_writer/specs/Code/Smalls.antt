@@ -1,7 +1,7 @@
 -- The numbers of leaves as they are written.
 use Rattle.std.specs.Prelude.{◌<◌, ◌^◌, List, IfSome}
 use Rattle.std.specs.List.{AllByRecursion}
-use Rattle.job_writer.specs.declared.writer.written.WrittenLeaf.{WrittenLeaf}
+use Rattle.job_writer.specs.Canonical.{WrittenLeaf}
 use Rattle.job_lang.specs.ActNumbers.{act_number, IsSmall}
 
 -- each number fits 32 bits: that of the act, the leaf's own, and its source's

@@ -5,7 +5,7 @@ use Rattle.job_names.specs.declared.name.Name.{Name}
 use Rattle.job_names.specs.Names.{AreSpelled, spelling}
 use Rattle.seq_objects.specs.declared.act.Act.{Act}
 use Rattle.sp_order.specs.Objects.{number_in}
-use Rattle.job_writer.specs.declared.writer.written.WrittenLeaf.{WrittenLeaf}
+use Rattle.job_writer.specs.Canonical.{WrittenLeaf}
 
 -- the texts of names
 abbrev pub texts_of : List Name → List (List ℕ)

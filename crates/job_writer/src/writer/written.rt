@@ -5,6 +5,7 @@ ghost use Rattle.job_writer.specs.Canonical.{is_leaf, is_source, written_leaves}
 use seq_objects::Act;
 use sp_order::Job;
 use std::alloc::{AllocError, Global};
+use std::marker::Model;
 
 /// A leaf: its number, whether some leaf has it as its source, its act, and its own source.
 #[derive(Clone, Copy)]
@@ -13,6 +14,14 @@ pub(crate) struct WrittenLeaf {
     pub(crate) named: bool,
     pub(crate) act: Act,
     pub(crate) source: Option<u32>,
+}
+
+impl Model for WrittenLeaf {
+    ghost use Rattle.job_writer.specs.Canonical.{WrittenLeaf as LeafInText};
+
+    ghost Value = { LeafInText };
+
+    ghost view = { λ leaf. record { number = leaf.number; named = leaf.named; act = leaf.act; source = leaf.source } };
 }
 
 /// Marks a source, if there is one.

@@ -7,6 +7,8 @@
 #[cfg(test)]
 mod batch;
 #[cfg(test)]
+mod beside_plain;
+#[cfg(test)]
 mod counter;
 #[cfg(test)]
 mod plain;

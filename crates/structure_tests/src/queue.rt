@@ -45,10 +45,32 @@ const ROWS: &[Row] = &[
     ),
 ];
 
+/// Four and nine times five, and then eleven takes, by batches of three.
+const FOUR_AND_FIVES: &[Row] = &[
+    (&[Op::PqInsert(0, 5); 3], &[Reply::Unit; 3]),
+    (&[Op::PqInsert(0, 5); 3], &[Reply::Unit; 3]),
+    (&[Op::PqInsert(0, 5); 3], &[Reply::Unit; 3]),
+    (&[Op::PqInsert(0, 4)], &[Reply::Unit]),
+    (
+        &[Op::PqTake(0); 3],
+        &[Reply::Number(4), Reply::Number(5), Reply::Number(5)],
+    ),
+    (&[Op::PqTake(0); 3], &[Reply::Number(5); 3]),
+    (&[Op::PqTake(0); 3], &[Reply::Number(5); 3]),
+    (&[Op::PqTake(0); 2], &[Reply::Number(5), Reply::Empty]),
+];
+
 #[test]
 fn the_least_items_are_taken(rt: HostRuntime) -> Result<(), Fail> {
     let queue = Queue::new(rt.alloc())?;
-    all_hold(first_wrong(rt.alloc(), queue, Op::PqTake(0), ROWS)?)
+    all_hold(first_wrong(rt.alloc(), queue, Op::PqTake(0), ROWS)?)?;
+    let queue = Queue::new(rt.alloc())?;
+    all_hold(first_wrong(
+        rt.alloc(),
+        queue,
+        Op::PqTake(0),
+        FOUR_AND_FIVES,
+    )?)
 }
 
 /// Puts the items 20,000, 19,999, .. 1 into a heap.

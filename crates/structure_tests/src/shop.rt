@@ -33,14 +33,13 @@ fn calls_from(alloc: Global, ops: &[Op]) -> Result<Vec<Call>, AllocError>
 /// the reply of each.
 type Row = (&'static [Op], &'static [u32], &'static [(u32, Reply)]);
 
-/// Whether pieces have these places.
-fn are_at(pieces: &[PieceIn], places: &[u32]) -> bool {
-    for (at, piece) in pieces.iter().enumerate() {
-        if places.get(at) != Some(&piece.place()) {
-            return false;
-        }
+/// The places of pieces.
+fn places_of(alloc: Global, pieces: &[PieceIn]) -> Result<Vec<u32>, AllocError> {
+    let mut places = Vec::with_capacity(alloc, pieces.len())?;
+    for piece in pieces {
+        places.push(piece.place())?;
     }
-    pieces.len() == places.len()
+    Ok(places)
 }
 
 /// Whether a batch has these entries.
@@ -70,30 +69,25 @@ fn run_backwards(alloc: Global, pieces: Vec<PieceIn>) -> Result<Vec<PieceOut>, A
     }
 }
 
-/// Whether a first batch has these places and entries, where its pieces are run from the last to the first.
-fn serve_backwards(
-    alloc: Global,
-    ops: &[Op],
-    places: &[u32],
-    entries: &[(u32, Reply)],
-) -> Result<bool, AllocError>
+/// A first batch, whose pieces are run from the last to the first, with their places and how many batches the shop has
+/// then.
+pub(crate) fn first_batch(alloc: Global, ops: &[Op]) -> Result<(Batch, Vec<u32>, usize), AllocError>
     requires some { 0 < length ops.now }
     requires few { length ops.now ≤ 32 }
 {
     let shop = Shop::new(alloc)?;
     let calls = calls_from(alloc, ops)?;
     let (opened, pieces) = shop.begin(alloc, calls)?;
-    let are_at = are_at(&pieces, places);
+    let places = places_of(alloc, &pieces)?;
     let outs = run_backwards(alloc, pieces)?;
     let (shop, batch) = opened.end(alloc, outs)?;
     let kept = shop.into_history().batches().len();
-    let has_entries = has_entries(&batch, entries);
-    Ok(are_at & has_entries & (kept == 1))
+    Ok((batch, places, kept))
 }
 
-/// Pushes before pops, a batch of all kinds, one of 32 takes, and batches on several objects: pops of two empty stacks, 17 additions to a
-/// counter and one to another, takes of two queues, a tree and a stack of one number, two stacks whose pieces go
-/// together, and 32 objects.
+/// Pushes before pops, a batch of all kinds, one of 32 takes, and batches on several objects: pops of two empty stacks,
+/// 17 additions to a counter and one to another, takes of two queues, a tree and a stack of one number, two stacks whose
+/// pieces go together, and 32 objects.
 const BACKWARDS: &[Row] = &[
     (
         &[
@@ -328,7 +322,8 @@ fn first_wrong(alloc: Global, rows: &[Row]) -> Result<Option<usize>, AllocError>
         if ops.is_empty() || ops.len() > 32 {
             return Ok(Some(place));
         }
-        if !serve_backwards(alloc, ops, places, entries)? {
+        let (batch, found, kept) = first_batch(alloc, ops)?;
+        if found.as_slice() != places || !has_entries(&batch, entries) || kept != 1 {
             return Ok(Some(place));
         }
     }

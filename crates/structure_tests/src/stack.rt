@@ -2,14 +2,14 @@
 
 use crate::batch::{Row, are_of, calls_of, first_wrong};
 use batched_stack::Stack;
-use seq_objects::{Op, Reply, serve_batch};
+use seq_objects::{Batched, Op, Reply, serve_batch};
 use std::alloc::{AllocError, Global};
 use std::test::Fail;
 use test_rows::all_hold;
 
 /// Pushes before pops, pops of later batches, and pops of an empty stack.
 const ROWS: &[Row] = &[
-    (&[Op::Pop(0), Op::Pop(0)], &[Reply::Empty, Reply::Empty]),
+    (&[Op::Pop(0); 4], &[Reply::Empty; 4]),
     (
         &[
             Op::Pop(0),
@@ -35,6 +35,22 @@ const ROWS: &[Row] = &[
 fn pushes_come_before_pops(rt: HostRuntime) -> Result<(), Fail> {
     let stack = Stack::new(rt.alloc())?;
     all_hold(first_wrong(rt.alloc(), stack, Op::Pop(0), ROWS)?)
+}
+
+/// How many pieces four pops of an empty stack have.
+fn pieces_of_empty_pops(alloc: Global) -> Result<usize, AllocError> {
+    let calls = calls_of(alloc, &[Op::Pop(0); 4])?;
+    if !are_of(&calls, Op::Pop(0)) {
+        return Ok(0);
+    }
+    let (_rest, pieces) = Stack::new(alloc)?.begin(alloc, &calls)?;
+    Ok(pieces.len())
+}
+
+#[test]
+fn pops_of_an_empty_stack_are_one_piece(rt: HostRuntime) -> Result<(), Fail> {
+    assert!(rt; pieces_of_empty_pops(rt.alloc())? == 1);
+    Ok(())
 }
 
 /// The stack after some batches of up to 32 equal operations.

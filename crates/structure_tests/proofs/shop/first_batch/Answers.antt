@@ -1,6 +1,6 @@
 use Rattle.std.proofs.Common.{[], arith}
 use Rattle.structure_tests.proofs.Shops.{may_serve}
-use Rattle.structure_tests.proofs.shop.serve_backwards.Goals as goal
+use Rattle.structure_tests.proofs.shop.first_batch.Goals as goal
 
 pub begin-requires : goal.begin-requires
 begin-requires c =

@@ -68,7 +68,8 @@ impl FifoQueue {
 
     /// Serves a batch, and returns the replies in the order of its calls. The queue is dropped when memory runs out.
     ///
-    /// A batch has too few calls for a second thread by `threads_for`, so it is served on the caller's thread.
+    /// A batch has too few calls for a second thread by `threads_for`, so its pieces are one bundle, which is run on the
+    /// caller's thread.
     pub fn batch<R: Threads + Sync>(
         self,
         rt: &R,

@@ -2,8 +2,8 @@
 //! their public calls alone.
 //!
 //! What a call replies and leaves is proved for every input and every number of threads; the rows here are worked by
-//! hand, and show that the clauses say what is meant, that the calls succeed with ample memory, and that threads are
-//! started and joined.
+//! hand, and show that the clauses say what is meant, that the calls succeed with ample memory, and that a batch in
+//! several threads replies the same.
 #![tactic(auto)]
 
 #[cfg(test)]

@@ -10,6 +10,8 @@ mod generated;
 #[cfg(test)]
 mod language;
 #[cfg(test)]
+mod names;
+#[cfg(test)]
 mod objects;
 #[cfg(test)]
 mod plans;

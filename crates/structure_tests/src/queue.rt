@@ -81,9 +81,9 @@ fn fill(alloc: Global, heap: &mut Heap) -> Result<(), AllocError> {
     Ok(())
 }
 
-/// A heap whose left edge is long is taken from, and dropped without a deep recursion.
+/// A heap of twenty thousand items is taken from, and dropped.
 #[test]
-fn a_long_heap_is_taken_from_and_dropped(rt: HostRuntime) -> Result<(), Fail> {
+fn a_large_heap_is_taken_from_and_dropped(rt: HostRuntime) -> Result<(), Fail> {
     let mut heap = Heap::new(rt.alloc());
     fill(rt.alloc(), &mut heap)?;
     assert!(rt; heap.pop() == Some(1) && heap.pop() == Some(2));

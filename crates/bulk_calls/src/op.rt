@@ -14,7 +14,7 @@ pub enum BulkKind {
 /// One kind of operation, done with up to 64 keys one after another. Contracts see its kind and the list of its keys.
 ///
 /// The keys are the first `count` of `keys`. A value takes no memory from an allocator.
-#[derive(Clone, Copy)]
+#[derive(Drop)]
 pub struct BulkOp {
     pub kind: BulkKind,
     pub keys: [u32; 64],
@@ -57,6 +57,19 @@ impl BulkOp {
     {
         self.keys[self.count as usize] = key;
         self.count += 1;
+    }
+
+    /// A copy.
+    ///
+    /// Memory: none.
+    pub(crate) fn copied(&self) -> BulkOp
+        ensures { result ≡ self.now }
+    {
+        BulkOp {
+            kind: self.kind,
+            keys: self.keys,
+            count: self.count,
+        }
     }
 
     /// What is done with the keys.

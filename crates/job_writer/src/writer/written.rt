@@ -22,6 +22,8 @@ impl Model for WrittenLeaf {
     ghost Value = { LeafInText };
 
     ghost view = { λ leaf. record { number = leaf.number; named = leaf.named; act = leaf.act; source = leaf.source } };
+
+    ghost inverse = { λ leaf. record { number = leaf.number; named = leaf.named; act = leaf.act; source = leaf.source } };
 }
 
 /// Marks a source, if there is one.

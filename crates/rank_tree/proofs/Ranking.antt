@@ -15,10 +15,10 @@ index_above m (e ∷ entries) (suc i) key above is = index_above m entries i key
 
 value_above : (m : ℕ) (entries : List Entry) (key : ℕ) → AllByRecursion (λ (e : Entry). m < e.key) entries → IsSome (value_at key entries) → m < key
 value_above m [] key above is = cc
-value_above m (e ∷ entries) key above is = step (key == e.key) refl is where
-  step : (same : Bool) → (key == e.key) ≡ same → IsSome (if same then Some e.val else value_at key entries) → m < key
-  step true test here = let one : key ≡ e.key = grind (arith, nat_tests) in rw one above.0
-  step false test there = value_above m entries key above.1 there
+value_above m (e ∷ entries) key above is = step (key == e.key) refl is (λ there. value_above m entries key above.1 there) where
+  step : (same : Bool) → (key == e.key) ≡ same → IsSome (if same then Some e.val else value_at key entries) → (IsSome (value_at key entries) → m < key) → m < key
+  step true test here later = let one : key ≡ e.key = grind (arith, nat_tests) in rw one above.0
+  step false test there later = later there
 
 -- the key at an index has a value, and the index is its rank
 index_is_rank : (entries : List Entry) (i key : ℕ) → Ascends entries → key_at i entries ≡ Some key → IsSome (value_at key entries) × (rank_of key entries ≡ i)
@@ -36,16 +36,17 @@ index_is_rank (e ∷ entries) (suc i) key up is =
 -- a key that has a value stands at its rank
 stands_at_rank : (entries : List Entry) (key : ℕ) → Ascends entries → IsSome (value_at key entries) → key_at (rank_of key entries) entries ≡ Some key
 stands_at_rank [] key up is = cc
-stands_at_rank (e ∷ entries) key up is = step (key == e.key) refl is where
-  step : (same : Bool) → (key == e.key) ≡ same → IsSome (if same then Some e.val else value_at key entries) → key_at (rank_of key (e ∷ entries)) (e ∷ entries) ≡ Some key
-  step true test here =
+stands_at_rank (e ∷ entries) key up is = step (key == e.key) refl is (λ there. stands_at_rank entries key up.1 there) where
+  step : (same : Bool) → (key == e.key) ≡ same → IsSome (if same then Some e.val else value_at key entries)
+      → (IsSome (value_at key entries) → key_at (rank_of key entries) entries ≡ Some key) → key_at (rank_of key (e ∷ entries)) (e ∷ entries) ≡ Some key
+  step true test here stands =
       let one : key ≡ e.key = grind (arith, nat_tests) in
       let first : rank_of key (e ∷ entries) ≡ 0 = rank_left key e [] entries (omega (arith, one)) up in
       rw first (ap Some (omega (arith, one)))
-  step false test there =
+  step false test there stands =
       let above : e.key < key = value_above e.key entries key up.0 there in
       let later : rank_of key (e ∷ entries) ≡ suc (rank_of key entries) = omega (arith, rank_right key e [] entries above up) in
-      rw later (stands_at_rank entries key up.1 there)
+      rw later (stands there)
 
 pub stands : (entries : List Entry) (i key : ℕ) → Ascends entries → (key_at i entries ≡ Some key) ↔ (IsSome (value_at key entries) × (rank_of key entries ≡ i))
 stands entries i key up =

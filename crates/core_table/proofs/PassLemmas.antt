@@ -1,4 +1,5 @@
 pub mod PassKept
+pub mod Refused
 pub mod NewPass
 pub mod Ticks
 pub mod NoAct

@@ -1,5 +1,7 @@
 -- What a table is made for, and when a pass belongs to a table.
-use Rattle.std.specs.Prelude.{ℕ, ◌≡◌, ◌≢◌, ◌<◌, ◌≤◌, ◌+◌, Bool, List, Option, None, Some, true}
+use Rattle.std.specs.Prelude.{ℕ, ◌≡◌, ◌≢◌, ◌<◌, ◌≤◌, ◌+◌, Bool, List, Option, None, Some, true, IfSome, slice_get}
+use mathlib.Core.Option.{some}
+use lib.ListN.{get_elem?}
 use Rattle.atomic_table.specs.Seated.{TableId}
 use Rattle.atomic_table.specs.declared.shared.Seat.{Seat}
 use Rattle.sp_order.specs.Jobs.{JobValue}
@@ -8,6 +10,7 @@ use Rattle.table_rule.specs.Tasks.{TaskHere, job_seen}
 use Rattle.core_model.specs.Next.{next_act}
 use Rattle.core_model.specs.declared.next.Next.{Next}
 use Rattle.table_rule.specs.declared.view.HoldView.{HoldView}
+use Rattle.table_rule.specs.declared.view.Miss.{Miss}
 use Rattle.core_model.specs.State.{CoreJob}
 use Rattle.table_rule.specs.declared.slot.Slot.{Slot}
 use Rattle.table_rule.specs.declared.view.PassView.{PassView}
@@ -15,7 +18,8 @@ use Rattle.table_rule.specs.declared.view.View.{View}
 use Rattle.core_model.specs.declared.setting.Setting.{Setting}
 use Rattle.core_table.specs.declared.table.CoreTable.{CoreTable}
 use Rattle.core_table.specs.declared.table.Pass.{Pass}
-use Rattle.table_rule.specs.Shows.{job_of, room_of}
+use Rattle.table_rule.specs.Shows.{TableState, job_of, room_of}
+use Rattle.table_rule.specs.Moments.{IsMomentOf, IsMissAt}
 use Rattle.table_rule.specs.Passes.{unused}
 use Rattle.table_rule.specs.Views.{first_view}
 use Rattle.table_rule.specs.HoldsSlots.{HoldsSlots}
@@ -54,6 +58,17 @@ IsTrapped pass = (view pass).own.call ≡ Out
 
 abbrev pub IsNotTrapped : Pass → Type 0
 IsNotTrapped pass = (view pass).own.call ≢ Out
+
+-- A moment of a call with this pass, and what the call finds in the word at `place`, where that is not what it looks for.
+abbrev pub IsMomentIn : CoreTable → Pass → ℕ → Type 0
+IsMomentIn table pass moment = IsMomentOf (job_in table) (room_of (setting_in table)) (view pass) moment
+
+abbrev pub IsMissOf : CoreTable → Pass → ℕ → Miss → Type 0
+IsMissOf table pass place miss = IsMissAt (job_in table) (room_of (setting_in table)) (view pass) place miss
+
+-- each of these passes has a seat at the table in this state
+abbrev pub AreSeated : TableState → List Pass → Type 0
+AreSeated t passes = (w : ℕ) → IfSome (slice_get passes w) (λ pass. (id : ℕ) × (get_elem? t.views id ≡ some (view pass)))
 
 -- the hold, if there is one, has looked at no more workers than there are
 abbrev pub LooksFit : ℕ → Option HoldView → Type 0

@@ -5,14 +5,16 @@ ghost use Rattle.table_rule.specs.CoreWords.{Started, Post as PostOf};
 ghost use Rattle.core_model.specs.Measure.{call_count};
 ghost use Rattle.core_model.specs.Operations.{op_of, place_of, IsReceipt};
 ghost use Rattle.table_rule.specs.declared.view.HoldView.{HoldView};
+ghost use Rattle.table_rule.specs.declared.view.Miss.{Miss};
 ghost use Rattle.table_rule.specs.declared.slot.OpRecord.{OpRecord as CallRecord};
 ghost use Rattle.table_rule.specs.DueActs.{IsPostDue};
 ghost use Rattle.table_rule.specs.Shows.{record_in, among, entry_of, IsPrefix};
 ghost use Rattle.core_model.specs.Entries.{StandsAt};
-ghost use Rattle.core_table.specs.Passes.{IsPassOf, job_in, next_in, pass_view, view, IsTrapped};
+ghost use Rattle.core_table.specs.Passes.{IsPassOf, IsMissOf, job_in, next_in, pass_view, view, IsTrapped};
 ghost use Rattle.table_rule.specs.Batches.{IsLookDue, IsPublishDue, IsReleaseDue};
 ghost use Rattle.table_rule.specs.Passes.{call_by, winning, refusing_win, leaving, refusing_leave, releasing, taking, skipping, publishing, answering};
-ghost use Rattle.table_rule.specs.Views.{with_step, with_found, with_post};
+ghost use Rattle.table_rule.specs.Views.{with_step, with_miss, with_post};
+ghost use Rattle.table_rule.specs.Words.{flag_at};
 ghost use Rattle.table_rule.specs.Plays.{IsNewCall};
 
 use crate::table::{CoreTable, Pass};
@@ -52,8 +54,9 @@ impl CoreTable {
         ensures won { IfSome result (λ shop.
             (view pass.new ≡ with_step (winning shop) (view pass.old))
             × IsPrefix (view pass.old).own.book_seen shop) }
-        ensures lost { IfNone result ((seen : ℕ) × (seen ≢ 0)
-            × (view pass.new ≡ with_found seen refusing_win (view pass.old))) }
+        ensures lost { IfNone result ((miss : Miss)
+            × ((miss.found ≢ 0) × IsMissOf self.now pass.old (flag_at (job_in self.now).workers) miss)
+            × (view pass.new ≡ with_miss miss refusing_win (view pass.old))) }
     {
         self.laws_hold();
         let shared = &self.table.shared;
@@ -88,8 +91,9 @@ impl CoreTable {
             (entry_of (view pass.new).own.worker (record { call = call; receipt = receipt }))
             × ((view pass.old).own.before ≤ receipt.batch)
             × ((since : ℕ) → (view pass.old).own.after ≡ Some since → receipt.batch ≤ since + 1)) }
-        ensures stays { IfErr result (λ seen. (seen ≢ 3)
-            × (view pass.new ≡ with_found seen refusing_leave (view pass.old))) }
+        ensures stays { IfErr result (λ seen. (miss : Miss)
+            × ((seen ≢ 3) × (miss.found ≡ seen) × IsMissOf self.now pass.old (view pass.old).own.worker miss)
+            × (view pass.new ≡ with_miss miss refusing_leave (view pass.old))) }
     {
         self.laws_hold();
         let shared = &self.table.shared;
@@ -117,8 +121,9 @@ impl CoreTable {
             × IsNewCall (call_count (job_in self.now)) h call
             × (op_of (job_in self.now) h.book call.leaf ≡ Some call.op)
             × (view pass.new ≡ with_step (taking (call_by u call)) (view pass.old))) }
-        ensures passed { IfErr result (λ seen. (seen ≢ 1)
-            × (view pass.new ≡ with_found seen (skipping u seen) (view pass.old))) }
+        ensures passed { IfErr result (λ seen. (miss : Miss)
+            × ((seen ≢ 1) × (miss.found ≡ seen) × IsMissOf self.now pass.old u miss)
+            × (view pass.new ≡ with_miss miss (skipping u seen) (view pass.old))) }
     {
         self.laws_hold();
         let shared = &self.table.shared;

@@ -1,15 +1,16 @@
 //! The job side (claim, tick, open, source value, keep, finish, arrive), and the calls on the root, batch count and
 //! stop word.
-ghost use Rattle.std.specs.Prelude.{◌≡◌, ◌≢◌, ℕ, ◌+◌, ◌%◌, ◌<◌, Some, IsTrue, IsFalse, IsNone};
+ghost use Rattle.std.specs.Prelude.{◌≡◌, ◌≢◌, ℕ, ◌+◌, ◌%◌, ◌<◌, ◌≤◌, Some, IsTrue, IsFalse, IsNone};
 ghost use Rattle.core_model.specs.declared.next.Next.TheVariants as acts;
 ghost use Rattle.core_model.specs.Events.{task_after as next_task};
 ghost use Rattle.table_rule.specs.CoreWords.{Event, Task as TaskOf, Idle, Run, Started, Kept, Ended, Handed, Start as StartOf, End as EndOf, ArriveFirst, ArriveSecond};
 ghost use Rattle.table_rule.specs.DueActs.{IsTickDue, IsOpenDue, IsSourceDue, IsKeepDue, IsFinishDue, IsArriveDue};
 ghost use Rattle.table_rule.specs.Tasks.{progress_after};
-ghost use Rattle.table_rule.specs.Words.{progress_code};
-ghost use Rattle.table_rule.specs.Passes.{with_task, claiming, refusing, opening, telling, keeping, stopping, finding_stop, finding_none};
-ghost use Rattle.table_rule.specs.Views.{with_step, with_found, with_since, seeing_done, seeing_undone};
-ghost use Rattle.core_table.specs.Passes.{IsPassOf, job_in, next_in, pass_view, view, IsNotTrapped};
+ghost use Rattle.table_rule.specs.Words.{node_at, stop_at, progress_code};
+ghost use Rattle.table_rule.specs.declared.view.Miss.{Miss};
+ghost use Rattle.table_rule.specs.Passes.{with_task, claiming, refusing, opening, telling, keeping, finding_stop, finding_none};
+ghost use Rattle.table_rule.specs.Views.{with_step, with_miss, with_since, with_stop, seeing_done, seeing_undone};
+ghost use Rattle.core_table.specs.Passes.{IsPassOf, IsMissOf, IsMomentIn, job_in, next_in, pass_view, view, IsNotTrapped};
 
 use crate::table::{CoreTable, Pass};
 use core_model::{CallState, Next, Task};
@@ -80,9 +81,11 @@ impl CoreTable {
         ensures pass { IsPassOf self.now pass.new }
         ensures claimed { IsTrue result → view pass.new
             ≡ with_step (claiming node) (view pass.old) }
-        ensures refused { IsFalse result → (seen : ℕ)
-            × (node < (job_in self.now).plan.count → seen ≢ 1)
-            × (view pass.new ≡ with_found seen (refusing node) (view pass.old)) }
+        ensures refused { IsFalse result → (miss : Miss)
+            × ((node < (job_in self.now).plan.count → (miss.found ≢ 1)
+            × IsMissOf self.now pass.old (node_at (job_in self.now).workers node) miss)
+            × ((job_in self.now).plan.count ≤ node → IsMissOf self.now pass.old 0 miss))
+            × (view pass.new ≡ with_miss miss (refusing node) (view pass.old)) }
     {
         self.laws_hold();
         let shared = &self.table.shared;
@@ -217,8 +220,9 @@ impl CoreTable {
         requires pass { IsPassOf self.now pass.old }
         ensures pass { IsPassOf self.now pass.new }
         ensures done { IsTrue result → view pass.new ≡ seeing_done (view pass.old) }
-        ensures undone { IsFalse result → (seen : ℕ) × (seen % 4 ≢ 3)
-            × (view pass.new ≡ seeing_undone seen (view pass.old)) }
+        ensures undone { IsFalse result → (miss : Miss)
+            × ((miss.found % 4 ≢ 3) × IsMissOf self.now pass.old (node_at (job_in self.now).workers 0) miss)
+            × (view pass.new ≡ seeing_undone miss (view pass.old)) }
     {
         self.laws_hold();
         let at = self.layout().node(0);
@@ -240,7 +244,8 @@ impl CoreTable {
     pub fn stop(&self, pass: &mut Pass)
         requires pass { IsPassOf self.now pass.old }
         ensures pass { IsPassOf self.now pass.new }
-        ensures stopped { view pass.new ≡ with_step stopping (view pass.old) }
+        ensures stopped { (moment : ℕ) × IsMomentIn self.now pass.old moment
+            × (view pass.new ≡ with_stop moment (view pass.old)) }
     {
         self.laws_hold();
         let at = self.layout().stop();
@@ -252,8 +257,9 @@ impl CoreTable {
         requires pass { IsPassOf self.now pass.old }
         ensures pass { IsPassOf self.now pass.new }
         ensures set { IsTrue result → view pass.new ≡ with_step finding_stop (view pass.old) }
-        ensures unset { IsFalse result → (seen : ℕ) × (seen ≢ 1)
-            × (view pass.new ≡ with_found seen finding_none (view pass.old)) }
+        ensures unset { IsFalse result → (miss : Miss)
+            × ((miss.found ≡ 0) × IsMissOf self.now pass.old (stop_at (job_in self.now).workers) miss)
+            × (view pass.new ≡ with_miss miss finding_none (view pass.old)) }
     {
         self.laws_hold();
         let at = self.layout().stop();

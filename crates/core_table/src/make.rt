@@ -1,12 +1,12 @@
 //! Making a table in the opening state, with one pass for each worker.
-ghost use Rattle.std.specs.Prelude.{◌≡◌, ℕ, ◌+◌, ◌<◌, ◌≤◌, ◌∷◌, ◌++◌, [], Some, length, replicate, slice_set, slice_get, IsSome, IfSome, IfOk};
+ghost use Rattle.std.specs.Prelude.{◌≡◌, ℕ, ◌+◌, ◌<◌, ◌≤◌, ◌∷◌, ◌++◌, [], Some, length, replicate, slice_set, slice_get, slice_index, IsSome, IfSome, IfOk};
 ghost use Rattle.sp_order.specs.Jobs.{job_tree};
 ghost use Rattle.sp_order.specs.Preorder.{nodes_of};
 ghost use Rattle.core_model.specs.State.{core_job};
 ghost use Rattle.core_model.specs.Measure.{call_count, one_if_call};
-ghost use Rattle.table_rule.specs.Words.{node_at, word_count};
-ghost use Rattle.table_rule.specs.Shows.{reserved};
-ghost use Rattle.core_table.specs.Passes.{job_in, planned_in, setting_in, opening_view, IsPassOf, view};
+ghost use Rattle.table_rule.specs.Words.{node_at, stop_at, word_count};
+ghost use Rattle.table_rule.specs.Shows.{reserved, Shown, TableState};
+ghost use Rattle.core_table.specs.Passes.{job_in, planned_in, setting_in, opening_view, AreSeated, IsPassOf, view};
 
 use crate::table::{CoreTable, Pass};
 use atomic_table::{Refused, Table};
@@ -18,7 +18,7 @@ use seq_objects::Act;
 use sp_order::node::Kind;
 use sp_order::{Job, PlannedJob};
 use std::alloc::{AllocError, Global};
-use table_rule::laws::laws_hold;
+use table_rule::laws::{laws_hold, the_stop_word_is_set_by_a_pass};
 use table_rule::plays::{Enrol, SplitSeat};
 use table_rule::{Layout, MOST_WORKERS, Slot};
 
@@ -95,6 +95,8 @@ impl CoreTable {
         ensures count { IfOk result (λ r. length r.1.items ≡ workers) }
         ensures passes { IfOk result (λ r. (w : ℕ) → IfSome (slice_get r.1.items w)
             (λ pass. IsPassOf r.0 pass × (view pass ≡ opening_view r.0 w))) }
+        ensures unset { IfOk result (λ r. (t : TableState) → Shown (setting_in r.0) t → AreSeated t r.1.items
+            → slice_index t.words (stop_at (setting_in r.0).workers) ≡ 0) }
     {
         let setting = Setting::of(alloc, job, workers)?;
         CoreTable::of(alloc, setting)
@@ -107,8 +109,11 @@ impl CoreTable {
         ensures count { IfOk result (λ r. length r.1.items ≡ setting.workers) }
         ensures passes { IfOk result (λ r. (w : ℕ) → IfSome (slice_get r.1.items w)
             (λ pass. IsPassOf r.0 pass × (view pass ≡ opening_view r.0 w))) }
+        ensures unset { IfOk result (λ r. (t : TableState) → Shown (setting_in r.0) t → AreSeated t r.1.items
+            → slice_index t.words (stop_at (setting_in r.0).workers) ≡ 0) }
     {
         laws_hold();
+        the_stop_word_is_set_by_a_pass();
         job_has_its_sources();
         let nodes = setting.job.nodes();
         let workers = setting.workers;

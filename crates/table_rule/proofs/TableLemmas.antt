@@ -1,5 +1,6 @@
 pub mod Words
 pub mod Traces
+pub mod Misses
 pub mod Facts
 pub mod Moved
 pub mod Through

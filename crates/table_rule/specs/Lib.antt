@@ -2,6 +2,7 @@ pub mod CoreWords
 pub mod Words
 pub mod Passes
 pub mod Shows
+pub mod Moments
 pub mod OneState
 pub mod Views
 pub mod Tasks

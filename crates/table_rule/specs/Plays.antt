@@ -12,14 +12,17 @@ use Rattle.table_rule.specs.declared.slot.OpRecord.{OpRecord}
 use Rattle.table_rule.specs.declared.slot.Slot.{Slot}
 use Rattle.table_rule.specs.declared.slot.Slot.TheVariants as Slots
 use Rattle.table_rule.specs.declared.view.HoldView.{HoldView}
+use Rattle.table_rule.specs.declared.view.Miss.{Miss}
+use Rattle.table_rule.specs.declared.view.PassView.{PassView}
 use Rattle.table_rule.specs.declared.view.View.{View}
 use Rattle.table_rule.specs.Words.{flag_at, count_at, stop_at, node_at, value_at}
 use Rattle.table_rule.specs.Batches.{IsPublishDue}
 use Rattle.core_model.specs.Entries.{StandsAt}
 use Rattle.table_rule.specs.Shows.{record_in, entry_of, reserved, IsPrefix}
+use Rattle.table_rule.specs.Moments.{IsMomentOf, IsMissAt}
 use Rattle.table_rule.specs.Tasks.{IsNext, job_seen}
-use Rattle.table_rule.specs.Passes.{call_by, claiming, refusing, with_task, opening, keeping, telling, stopping, finding_stop, finding_none, winning, refusing_win, taking, skipping, publishing, answering, releasing, leaving, refusing_leave}
-use Rattle.table_rule.specs.Views.{with_step, with_found, with_post, with_since, seeing_done, seeing_undone, enrolling}
+use Rattle.table_rule.specs.Passes.{call_by, claiming, refusing, with_task, opening, keeping, telling, finding_stop, finding_none, winning, refusing_win, taking, skipping, publishing, answering, releasing, leaving, refusing_leave}
+use Rattle.table_rule.specs.Views.{with_step, with_miss, with_post, with_since, with_stop, seeing_done, seeing_undone, enrolling}
 
 -- a seat: its view and the slots that it carries
 abbrev pub SeatState : Type 0
@@ -28,14 +31,19 @@ SeatState = Me Slot View
 abbrev pub Play : Type 1
 Play = Step Slot → SeatState → ℕ → SeatState → Type 0
 
+-- the number found is not the one that the step looked for: the view notes the miss, and `f` is done to the pass
+abbrev pub missed : (PassView → PassView) → Play
+missed f st m r n =
+    (miss : Miss) × IsMissAt (job_seen m.0) m.0.room m.0 st.word miss × (miss.found ≡ r) × (n ≡ (with_miss miss f m.0, m.1))
+
 -- the claim succeeds exactly if the node's word was 1 (ready)
 abbrev pub claimed : Play
 claimed st m r n =
-    (node : ℕ) × (st.word ≡ node_at m.0.workers node) × (r ≡ 1 → n ≡ (with_step (claiming node) m.0, m.1)) × (r ≢ 1 → n ≡ (with_found r (refusing node) m.0, m.1))
+    (node : ℕ) × (st.word ≡ node_at m.0.workers node) × (r ≡ 1 → n ≡ (with_step (claiming node) m.0, m.1)) × (r ≢ 1 → missed (refusing node) st m r n)
 
 -- a claim past the last node is refused; the step's first operand is 4 more than the number claimed
 abbrev pub strayed : Play
-strayed st m r n = (node : ℕ) × (st.first ≡ 4 + node) × (n ≡ (with_found r (refusing node) m.0, m.1)) × (m.0.nodes ≤ node)
+strayed st m r n = (node : ℕ) × (st.first ≡ 4 + node) × missed (refusing node) st m r n × (m.0.nodes ≤ node)
 
 -- the number found is the tick drawn, which starts or ends the task's leaf, whichever is its next act
 abbrev pub drawn : Play
@@ -69,20 +77,24 @@ arrived st m r n =
 -- the root is seen done exactly if the two lowest bits of its word were 3
 abbrev pub looked_at_root : Play
 looked_at_root st m r n =
-    (r % 4 ≡ 3 → n ≡ (seeing_done m.0, m.1)) × (r % 4 ≢ 3 → n ≡ (seeing_undone r m.0, m.1)) × (st.word ≡ node_at m.0.workers 0)
+    (r % 4 ≡ 3 → n ≡ (seeing_done m.0, m.1))
+    × (r % 4 ≢ 3 → (miss : Miss) × IsMissAt (job_seen m.0) m.0.room m.0 st.word miss × (miss.found ≡ r) × (n ≡ (seeing_undone miss m.0, m.1)))
+    × (st.word ≡ node_at m.0.workers 0)
 
 -- the number of published batches is told
 abbrev pub heard : Play
 heard st m r n = (n ≡ (with_since r m.0, m.1)) × (st.word ≡ count_at m.0.workers)
 
--- the stop word is set to 1
+-- the stop word is set to 1, at a moment that the view notes
 abbrev pub stopped_all : Play
-stopped_all st m r n = (n ≡ (with_step stopping m.0, m.1)) × (st.word ≡ stop_at m.0.workers) × (st.first ≡ 1)
+stopped_all st m r n =
+    ((moment : ℕ) × IsMomentOf (job_seen m.0) m.0.room m.0 moment × (n ≡ (with_stop moment m.0, m.1)))
+    × (st.word ≡ stop_at m.0.workers) × (st.first ≡ 1)
 
--- the stop word is found set exactly if it was 1
+-- the stop word is found set exactly if it was 1, and else it was 0
 abbrev pub looked_at_stop : Play
 looked_at_stop st m r n =
-    (r ≡ 1 → n ≡ (with_step finding_stop m.0, m.1)) × (r ≢ 1 → n ≡ (with_found r finding_none m.0, m.1)) × (st.word ≡ stop_at m.0.workers)
+    (r ≡ 1 → n ≡ (with_step finding_stop m.0, m.1)) × (r ≢ 1 → (r ≡ 0) × missed finding_none st m r n) × (st.word ≡ stop_at m.0.workers)
 
 -- the word is that of a node's value, and the number found is told to the pass
 abbrev pub looked_at_value : Play
@@ -106,7 +118,7 @@ won st m r n =
     (r ≡ 0 → (m.0.own.hold ≡ None) × (book : List (List Entry))
     × (n ≡ (with_step (winning book) m.0, (st.word, Slots.Shop book) ∷ (st.word + 1, Slots.Book (reserved book m.0.room)) ∷ m.1))
     × IsPrefix m.0.own.book_seen book)
-    × (r ≢ 0 → n ≡ (with_found r refusing_win m.0, m.1)) × (st.word ≡ flag_at m.0.workers)
+    × (r ≢ 0 → missed refusing_win st m r n) × (st.word ≡ flag_at m.0.workers)
 
 -- The call's leaf is neither in the book nor that of a call taken before. The book's entries, the calls taken before
 -- and this one are together at most `room`.
@@ -122,7 +134,7 @@ took st m r n =
     (h : HoldView) × (m.0.own.hold ≡ Some h) × (h.published ≡ false)
     × (r ≡ 1 → (call : OpRecord) × IsNewCall m.0.room h call × (op_of (job_seen m.0) h.book call.leaf ≡ Some call.op)
     × (n ≡ (with_step (taking (call_by st.word call)) m.0, (st.word, Slots.Record call) ∷ m.1)))
-    × (r ≢ 1 → n ≡ (with_found r (skipping st.word r) m.0, m.1))
+    × (r ≢ 1 → missed (skipping st.word r) st m r n)
     × (st.word ≡ h.looks)
 
 -- the view stays; the book has room for any batch that is due, and stays a history with it
@@ -163,4 +175,4 @@ left st m r n =
     × ((book : List (List Entry)) × IsPrefix m.0.own.book_seen book × (op_of (job_seen m.0) book call.leaf ≡ Some call.op)
     × StandsAt book receipt.batch receipt.place (entry_of m.0.own.worker (record { call = call; receipt = receipt }))
     × (n ≡ (with_step (leaving call receipt book) m.0, (st.word, Slots.Receipt receipt) ∷ m.1))))
-    × (r ≢ 3 → n ≡ (with_found r refusing_leave m.0, m.1)) × (st.word ≡ m.0.own.worker)
+    × (r ≢ 3 → missed refusing_leave st m r n) × (st.word ≡ m.0.own.worker)

@@ -2,6 +2,7 @@
 use Rattle.std.specs.Prelude.{ℕ, ◌≡◌, ◌≢◌, ◌⊎◌, slice_index, ◌<◌, ◌≤◌, ◌+◌, ◌==◌, Bool, true, false, if◌then◌else◌, Option as Maybe, None, Some, List, [], ◌∷◌, ◌++◌, length, map}
 use mathlib.Core.Option.{Option, none, some}
 use lib.ListN.{get_elem?}
+use Rattle.std.specs.List.{AllByRecursion}
 use Rattle.atomic_table.specs.Table.{State as AtomicState}
 use Rattle.seq_objects.specs.Objects.{value_of}
 use Rattle.seq_objects.specs.Pairs.{AreDistinct}
@@ -11,7 +12,7 @@ use Rattle.core_model.specs.Runs.{Step, Reaches}
 use Rattle.core_model.specs.Settings.{job_of}
 use Rattle.core_model.specs.Words.{Entry, LeafNode}
 use Rattle.table_rule.specs.CoreWords.{Event, Task, Idle, Started, Status, Free, Pending, Executing, Served, CallState, NotCalled, Out, Got}
-use Rattle.core_model.specs.State.{CoreJob, Hold, State}
+use Rattle.core_model.specs.State.{CoreJob, CoreState, Hold, State}
 use Rattle.core_model.specs.LeafSources.{HasReplied}
 use Rattle.core_model.specs.Operations.{op_of, Place}
 use Rattle.core_model.specs.Entries.{entries_of}
@@ -25,6 +26,7 @@ use Rattle.table_rule.specs.declared.slot.Slot.{Slot}
 use Rattle.table_rule.specs.declared.slot.Slot.TheVariants as Slots
 use Rattle.table_rule.specs.declared.view.HoldView.{HoldView}
 use Rattle.table_rule.specs.declared.view.LeftCall.{LeftCall}
+use Rattle.table_rule.specs.declared.view.Miss.{Miss}
 use Rattle.table_rule.specs.declared.view.View.{View}
 use Rattle.core_model.specs.declared.setting.Setting.{Setting}
 use Rattle.table_rule.specs.Passes.{record_of}
@@ -187,16 +189,56 @@ abbrev pub EventsAgree : List View → List Step → Type 0
 EventsAgree views steps =
     (id : ℕ) (v : View) (w : ℕ) → get_elem? views id ≡ some v → v.own.worker ≤ w → w < v.to → events_by w steps ≡ v.own.events
 
--- The stop word is 0 or 1. It is 1 exactly if some pass has set it, and it is 1 if any look has ever found it set.
-pub record StopShows (word : ℕ) (views : List View) : Type 0 where
+-- In this state the word at `place` has this number: words that encode the state have it there. A state says nothing of
+-- the stop word.
+abbrev pub HasWord : CoreJob → State → ℕ → ℕ → Type 0
+HasWord job s place number =
+    (words : List ℕ)
+    × WordsShow job.workers job.plan.count words s.node s.mark s.value s.status s.hold s.tick (length s.book)
+    × (slice_index words place ≡ number)
+
+-- A miss of worker w's pass was true after these steps: they number as many as its moment, with as many events of the
+-- worker as it says, and in the state that they reach its word has the number found.
+pub record IsTrueAfter (job : CoreJob) (w : ℕ) (steps : List Step) (miss : Miss) : Type 0 where
+  pub core : CoreState
+  pub reached : Reaches job steps core
+  pub moment : length steps ≡ miss.moment
+  pub events : length (events_by w steps) ≡ miss.events
+  pub word : HasWord job core.state miss.word miss.found
+
+-- it was true at a moment of this trace, which has gone on since
+abbrev pub IsTrueIn : CoreJob → ℕ → List Step → Miss → Type 0
+IsTrueIn job w trace miss =
+    (front : List Step) × (back : List Step) × (trace ≡ front ++ back) × IsTrueAfter job w front miss
+
+-- the views agree with a trace: each miss of a view was true at its moment, for each worker in the view's range
+abbrev pub MissesAgree : CoreJob → List View → List Step → Type 0
+MissesAgree job views trace =
+    (id : ℕ) (v : View) (w : ℕ) → get_elem? views id ≡ some v → v.own.worker ≤ w → w < v.to
+    → AllByRecursion (IsTrueIn job w trace) v.misses
+
+-- a miss at the stop word found 0, and not after this set of the word, if there is one
+abbrev pub IsNotAfter : ℕ → Maybe ℕ → Type 0
+IsNotAfter moment None = Unit {0}
+IsNotAfter moment (Some set) = moment ≤ set
+
+abbrev pub IsBeforeSet : ℕ → Maybe ℕ → Miss → Type 0
+IsBeforeSet stop set miss = miss.word ≡ stop → (miss.found ≡ 0) × IsNotAfter miss.moment set
+
+-- The stop word, which stands at `stop`, is 0 or 1. It is 1 exactly if the pass of some worker has set it, and it is 1
+-- if any look has ever found it set. A look that found it not set was not after any set of it.
+pub record StopShows (stop word : ℕ) (views : List View) : Type 0 where
   pub known : (word ≡ 0) ⊎ (word ≡ 1)
   pub set : (id : ℕ) (v : View) → get_elem? views id ≡ some v → 0 < v.own.stops → word ≡ 1
-  pub by : word ≡ 1 → (id : ℕ) × (v : View) × (get_elem? views id ≡ some v) × (0 < v.own.stops)
+  pub by : word ≡ 1 → (id : ℕ) × (v : View) × (get_elem? views id ≡ some v) × (0 < v.own.stops) × (v.own.worker < v.to)
   pub found : (id : ℕ) (v : View) → get_elem? views id ≡ some v → 0 < v.own.stops_found → word ≡ 1
+  pub since : (id : ℕ) (v : View) (moment : ℕ) → get_elem? views id ≡ some v → v.stopped_at ≡ Some moment → word ≡ 1
+  pub unset : (id by : ℕ) (v u : View) → get_elem? views id ≡ some v → v.own.worker < v.to → get_elem? views by ≡ some u
+      → AllByRecursion (IsBeforeSet stop u.stopped_at) v.misses
 
 -- The table shows a state that has the eight parts of the invariant. Each worker is in the range of exactly one seat;
--- the first seat has all workers not yet split off. A trace leads from the opening state to the state, and each
--- worker's events in it are those in the view of its seat.
+-- the first seat has all workers not yet split off. A trace leads from the opening state to the state. Each worker's
+-- events in it are those in the view of its seat, and each miss in that view was true at its moment of the trace.
 pub record Shows (job : CoreJob) (room : ℕ) (t : TableState) : Type 0 where
   pub state : State
   -- the seat of each worker
@@ -212,7 +254,8 @@ pub record Shows (job : CoreJob) (room : ℕ) (t : TableState) : Type 0 where
   pub ready : ℕ → List ℕ
   pub reached : Reaches job trace (record { state = state; ready = ready })
   pub events : EventsAgree t.views trace
-  pub stop : StopShows (slice_index t.words (stop_at job.workers)) t.views
+  pub misses : MissesAgree job t.views trace
+  pub stop : StopShows (stop_at job.workers) (slice_index t.words (stop_at job.workers)) t.views
 
 -- the rule of the table: `atomic_table` keeps it between any two steps
 abbrev pub Shown : Setting → TableState → Type 0

@@ -1,5 +1,6 @@
 //! The rule's laws: those of the core that the rule rests on, and what holds of every table that meets the rule.
 ghost use Rattle.std.specs.Prelude.{◌≡◌, ◌<◌, ◌≤◌, ℕ, List, [], Some, length, slice_index};
+ghost use Rattle.std.specs.List.{AllByRecursion};
 ghost use mathlib.Core.Option.{some};
 ghost use lib.ListN.{get_elem?};
 ghost use Rattle.seq_objects.specs.Objects.{value_of};
@@ -8,7 +9,7 @@ ghost use Rattle.sp_order.specs.Precedence.{leaves};
 ghost use Rattle.core_model.specs.declared.setting.Setting.{Setting};
 ghost use Rattle.table_rule.specs.declared.view.View.{View};
 ghost use Rattle.table_rule.specs.Laws.{IsSound, Laws};
-ghost use Rattle.table_rule.specs.Shows.{TableState, Shown, job_of, IsPrefix};
+ghost use Rattle.table_rule.specs.Shows.{TableState, Shown, job_of, IsPrefix, IsTrueIn, IsBeforeSet};
 ghost use Rattle.table_rule.specs.OneState.{AreOne};
 ghost use Rattle.table_rule.specs.Words.{stop_at};
 ghost use Rattle.core_model.specs.Entries.{StandsAt};
@@ -102,7 +103,17 @@ pub fn tables_without_events_show_the_opening_state()
         → shown.state ≡ opening_state }
 {}
 
-/// The stop word is 0 until a pass sets it, and 1 from then on. A look finds it set only if some pass has set it.
+/// Each miss that a pass has noted was true at its moment: a front of the trace, as long as the moment says and with as
+/// many events of the pass as it says, reaches a state in which the word has the number found.
+pub fn misses_are_true_at_their_moments()
+    ensures { (key : Setting) (t : TableState) (shown : Shown key t) (id : ℕ) (v : View)
+        → get_elem? t.views id ≡ some v
+        → v.own.worker < v.to
+        → AllByRecursion (IsTrueIn (job_of key) v.own.worker shown.trace) v.misses }
+{}
+
+/// The stop word is 0 until a pass sets it, and 1 from then on. A look finds it set only if some pass has set it, and
+/// not set only if it found 0, not after the first set by any pass.
 pub fn the_stop_word_is_set_by_a_pass()
     ensures found { (key : Setting) (t : TableState) (shown : Shown key t) (id : ℕ) (v : View)
         → get_elem? t.views id ≡ some v
@@ -113,6 +124,12 @@ pub fn the_stop_word_is_set_by_a_pass()
         → 0 < v.own.stops
         → slice_index t.words (stop_at key.workers) ≡ 1 }
     ensures unset { (key : Setting) (t : TableState) (shown : Shown key t)
-        → ((id : ℕ) (v : View) → get_elem? t.views id ≡ some v → v.own.stops ≡ 0)
+        → ((w : ℕ) → w < key.workers → (id : ℕ) × (v : View) × (get_elem? t.views id ≡ some v)
+        × (v.own.worker ≤ w) × (w < v.to) × (v.own.stops ≡ 0))
         → slice_index t.words (stop_at key.workers) ≡ 0 }
+    ensures before { (key : Setting) (t : TableState) (shown : Shown key t) (id by : ℕ) (v u : View)
+        → get_elem? t.views id ≡ some v
+        → v.own.worker < v.to
+        → get_elem? t.views by ≡ some u
+        → AllByRecursion (IsBeforeSet (stop_at key.workers) u.stopped_at) v.misses }
 {}

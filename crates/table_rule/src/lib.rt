@@ -18,4 +18,4 @@ pub use layout::{Layout, MOST_WORKERS};
 pub use progress::{DONE, RanLeaf, TICKS, decode_undoes_encode};
 #[doc(hidden)]
 pub use slot::{OpRecord, Slot};
-pub use view::{HoldView, LeftCall, PassView, View};
+pub use view::{HoldView, LeftCall, Miss, PassView, View};

@@ -14,6 +14,17 @@ pub struct LeftCall {
     pub receipt: Receipt,
 }
 
+/// A look or a try that did not find what it was for, and so left its word as it was.
+#[derive(Clone, Copy)]
+pub struct Miss {
+    /// The index of the word in the table, and the number found there.
+    pub word: u64,
+    pub found: u64,
+    /// The moment of the look: the length of the trace then, and how many of its events were the pass's own.
+    pub moment: u64,
+    pub events: u64,
+}
+
 /// What the flag's holder knows of its hold.
 pub struct HoldView {
     /// The number of workers looked at, in worker order from 0.
@@ -88,9 +99,11 @@ pub struct View {
     /// Whether a look has found the root done, and the number of looks at the root.
     pub saw_done: bool,
     pub root_looks: u64,
-    /// The word found by the latest of these: a refused claim, win or leave, a take that took no call, a look that
-    /// found the root not done, or a look that found the stop word not 1.
-    pub found: u64,
+    /// The misses, the newest first: each refused claim, win or leave, each take that took no call, each look that found
+    /// the root not done, and each that found the stop word not set.
+    pub misses: LinkedList<Miss>,
+    /// The moment at which the pass first set the stop word, if it has.
+    pub stopped_at: Option<u64>,
     /// The number of calls of `since`.
     pub since_looks: u64,
     /// Whether the latest step was a post.

@@ -2,9 +2,11 @@
 ghost use Rattle.std.specs.Prelude.{◌≡◌, ◌<◌, ◌≤◌, ℕ, true, Some, IfOk, length, slice_index_or};
 ghost use Rattle.batch_history.specs.Lawful.{Lawful};
 ghost use Rattle.core_table.specs.declared.table.Pass.{Pass as PassOf};
-ghost use Rattle.core_table.specs.Passes.{planned_in, job_in, view, IsPassOf};
+ghost use Rattle.core_table.specs.Passes.{planned_in, job_in, view, IsPassOf, IsMissOf};
+ghost use Rattle.table_rule.specs.declared.view.Miss.{Miss};
 ghost use Rattle.table_rule.specs.Passes.{finding_none};
-ghost use Rattle.table_rule.specs.Views.{with_found, seeing_done};
+ghost use Rattle.table_rule.specs.Views.{with_miss, seeing_done};
+ghost use Rattle.table_rule.specs.Words.{stop_at};
 ghost use Rattle.core_model.specs.Reports.{IsRunReport};
 ghost use Rattle.worker_crew.specs.declared.crew.Me.{Me as MeOf};
 ghost use Rattle.worker_crew.specs.Workers.{IsReady};
@@ -107,8 +109,9 @@ fn work_as_crew<R: Threads + Wait + Sync, G: Pause + Sync>(
 fn has_ended(table: &CoreTable, pass: &mut Pass) -> bool
     requires pass { IsPassOf table.now pass.old }
     ensures pass { IsPassOf table.now pass.new }
-    ensures ended { result ≡ true → (seen : ℕ)
-        × (view pass.new ≡ seeing_done (with_found seen finding_none (view pass.old))) }
+    ensures ended { result ≡ true → (miss : Miss)
+        × ((miss.found ≡ 0) × IsMissOf table.now pass.old (stop_at (job_in table.now).workers) miss)
+        × (view pass.new ≡ seeing_done (with_miss miss finding_none (view pass.old))) }
 {
     !table.stopped(pass) && table.root_done(pass)
 }

@@ -7,6 +7,7 @@ use Rattle.atomic_table.specs.Seated.{TableId}
 use Rattle.atomic_table.specs.declared.shared.Seat.{Seat}
 use Rattle.core_model.specs.declared.status.CallState.TheVariants.{NotCalled, Out, Got}
 use Rattle.core_model.specs.declared.status.CallState.{CallState}
+use Rattle.table_rule.specs.declared.view.Miss.{Miss}
 use Rattle.table_rule.specs.declared.view.View.{View}
 use Rattle.table_rule.specs.declared.view.HoldView.{HoldView}
 use Rattle.table_rule.specs.declared.slot.Slot.{Slot}
@@ -19,7 +20,7 @@ use Rattle.batch_history.specs.declared.batch.Entry.{Entry}
 use Rattle.table_rule.specs.Plays.{SeatState}
 use Rattle.table_rule.specs.CoreWords.{Event, Receipt}
 use Rattle.table_rule.specs.Passes.{call_by, without_first, winning, in_hold, after_take, after_pass, after_publish, after_answer, taking, skipping, publishing, answering, releasing}
-use Rattle.table_rule.specs.Views.{with_step, with_found, with_post}
+use Rattle.table_rule.specs.Views.{with_step, with_miss, with_post}
 use Rattle.table_rule.specs.HoldsSlots.{vacant, HolderCarries, HoldsSlots}
 use Rattle.table_rule.specs.TracksHold.{TracksHold}
 use Rattle.core_table.proofs.ListLemmas.Owed.{remembers_kept}
@@ -144,10 +145,10 @@ carries_took k u v h call xs out is early m =
           (ap (λ l. l ++ (u, Slots.Vacant) ∷ []) was ∙ rw map-append refl));
     }
 
-pub carries_passed : (k u : ℕ) (v : View) (h : HoldView) (status : ℕ) (xs : List (ℕ × Slot)) → v.own.call ≡ Out → v.own.hold ≡ Some h → HoldsSlots k (v, xs) → HoldsSlots k (with_found status (skipping u status) v, xs)
-carries_passed k u v h status xs out is m =
+pub carries_passed : (k u : ℕ) (v : View) (miss : Miss) (h : HoldView) (status : ℕ) (xs : List (ℕ × Slot)) → v.own.call ≡ Out → v.own.hold ≡ Some h → HoldsSlots k (v, xs) → HoldsSlots k (with_miss miss (skipping u status) v, xs)
+carries_passed k u v miss h status xs out is m =
     let f = after_pass status in
-    let w : View = with_found status (skipping u status) v in record {
+    let w : View = with_miss miss (skipping u status) v in record {
       free = λ ne. absurd (ne out);
       trapped = λ _ e. absurd (some_after f v.own.hold h is e);
       holds = λ g e. subst (λ (z : HoldView). HolderCarries z.published w z xs) (hold_after f v.own.hold h g is e) (elim h.published as (λ (b : Bool). HolderCarries b v h xs → HolderCarries b w (f h) xs) [ false ↦ λ y. y | true ↦ λ y. y ] (m.holds h is));

@@ -49,6 +49,7 @@ use Rattle.table_rule.specs.Views as V
 use Rattle.table_rule.specs.Plays as G
 use Rattle.table_rule.proofs.TableLemmas.Words.{set_status, set_flag, flag_same}
 use Rattle.table_rule.proofs.TableLemmas.Facts.{is_free, is_trapped, is_executing, not_in_book}
+use Rattle.table_rule.proofs.TableLemmas.Misses.{miss_of, noted_at, miss_seen}
 use Rattle.table_rule.proofs.TableLemmas.Moved.{mine_of, moved, looked, found, missed, true_false, record_took, free_untaken, held_yes}
 use Rattle.core_model.specs.Entries.{StandsAt}
 use Rattle.table_rule.proofs.ListLemmas.Last.{took_put, among_put, record_last, workers_last}
@@ -230,7 +231,7 @@ module _ (job : CoreJob) (room : ℕ) (laws : Laws job) (slots id : ℕ) (v : Vi
         w,
         gives,
         tt,
-        moved job room laws t o id k v w (set t.words k 1) (set t.homes k (some (Slots.Record call))) (Post is.0 is.1) new happens me from to from to record { events = refl; stops = refl; found = refl } (get_or-set_other t.words k (stop_at P) 1 0 (λ e. let low = m.0 in omega arith))
+        moved job room laws t o id k v w (set t.words k 1) (set t.homes k (some (Slots.Record call))) (Post is.0 is.1) new happens me from to from to [] record { events = refl; stops = refl; found = refl; misses = refl; stopped = refl } tt (get_or-set_other t.words k (stop_at P) 1 0 (λ e. let low = m.0 in omega arith))
             (set_status P N t.words s.node s.mark s.value s.status s.hold s.tick (length s.book) o.words k Pending m.0)
             (slots_record job room t.homes s.task s.status s.hold s.hold s.book k Pending (some (Slots.Record call)) o.slots m.0 (call, refl, record_is) (λ home h. h) (λ home h. h))
             (λ own. record {
@@ -262,9 +263,10 @@ module _ (job : CoreJob) (room : ℕ) (laws : Laws job) (slots id : ℕ) (v : Vi
   posts_at m call e enrolled is called = subst (λ (m : G.SeatState). StepRefines job room slots id m k (λ y. 1) (λ y. G.posted (step slots k 1 0 none) m 1) (MakesEvent job k (Post is.0 is.1))) (sym e) (posts call enrolled is called)
 
   -- a trapped pass tries for the flag
-  pub wins : v.workers ≡ P → v.own.call ≡ Out → v.room ≡ room → StepRefines job room slots id (v, xs) (flag_at P) (λ y. either (eqb y 0) (k + 1) y) (G.won (step slots (flag_at P) 0 (k + 1) none) (v, xs)) (TryMakes 0 (MakesEvent job k Win))
-  wins sized out roomy t o wide me fits =
+  pub wins : v.workers ≡ P → v.own.call ≡ Out → v.room ≡ room → job_seen v ≡ job → StepRefines job room slots id (v, xs) (flag_at P) (λ y. either (eqb y 0) (k + 1) y) (G.won (step slots (flag_at P) 0 (k + 1) none) (v, xs)) (TryMakes 0 (MakesEvent job k Win))
+  wins sized out roomy seen t o wide me fits =
       let s = o.state in
+      let miss = miss_of job room t o v P in
       let word = get_or t.words P 0 in
       let m = mine_of job room t o id k v me from to in
       exchanged word 0 (k + 1) (λ y. (w : View) × (a : Act Slot) × Valid t.homes xs a × ShowsOne job room (TryMakes 0 (MakesEvent job k Win) s word) (stepped t P y id xs w a) × G.won (step slots P 0 (k + 1) none) (v, xs) word (w, carried_after xs a))
@@ -282,7 +284,7 @@ module _ (job : CoreJob) (room : ℕ) (laws : Laws job) (slots id : ℕ) (v : Vi
         w,
         chain (takes (P + 1) (Slots.Book (reserved s.book room))) (takes P (Slots.Shop s.book)),
         (book, set_else t.homes (P + 1) P none (λ e. omega arith) ∙ shop),
-        found word 0 (MakesEvent job k Win) zero (moved job room laws t o id k v w (set t.words P (k + 1)) homes Win new happens me from to from to record { events = refl; stops = refl; found = refl } (get_or-set_other t.words (P) (stop_at P) (k + 1) 0 (λ e. omega arith))
+        found word 0 (MakesEvent job k Win) zero (moved job room laws t o id k v w (set t.words P (k + 1)) homes Win new happens me from to from to [] record { events = refl; stops = refl; found = refl; misses = refl; stopped = refl } tt (get_or-set_other t.words (P) (stop_at P) (k + 1) 0 (λ e. omega arith))
             (set_flag P N t.words s.node s.mark s.value s.status s.hold s.tick (length s.book) o.words (Some h))
             record {
               wide = length-set (set t.homes (P + 1) none) P none ∙ (length-set t.homes (P + 1) none ∙ o.slots.wide);
@@ -298,18 +300,20 @@ module _ (job : CoreJob) (room : ℕ) (laws : Laws job) (slots id : ℕ) (v : Vi
         ((λ _. (none_held job s k v.own.hold m.1.hold open_, s.book, ap (λ (r : ℕ). (V.with_step (W.winning s.book) v, (P, Slots.Shop s.book) ∷ (P + 1, Slots.Book (reserved s.book r)) ∷ xs)) (sym roomy), m.1.seen)), (λ ne. absurd (ne zero)), ap flag_at (sym sized)),
       ))
       (λ ne. (
-        V.with_found word W.refusing_win v,
+        V.with_miss miss W.refusing_win v,
         keeps,
         tt,
-        missed word 0 (MakesEvent job k Win) ne (looked job room t o id k P v (V.with_found word W.refusing_win v) me from to from to refl refl (λ h. inl h)
+        missed word 0 (MakesEvent job k Win) ne (looked job room t o id k P v (V.with_miss miss W.refusing_win v) me from to from to refl refl (λ h. inl h) (miss ∷ []) refl refl
+            (noted_at job room t o id k v me from to P (λ e. omega arith))
             (λ own. record { sits = own.sits; task = own.task; call = own.call; posted = own.posted; told = own.told; entries = own.entries; hold = own.hold; new = own.new; done = own.done; seen = own.seen; since = record { most = own.since.most; early = own.since.early; late = own.since.late; placed = own.since.placed; waits = own.since.waits } })),
-        ((λ zero. absurd (ne zero)), (λ _. refl), ap flag_at (sym sized)),
+        ((λ zero. absurd (ne zero)), (λ _. (miss, miss_seen job room t o id k v me from to seen roomy P, refl, refl)), ap flag_at (sym sized)),
       ))
 
   -- a trapped pass without the flag tries to leave
-  pub leaves : v.enrolled ≡ true → v.own.call ≡ Out → v.own.hold ≡ None → job_seen v ≡ job → StepRefines job room slots id (v, xs) k (λ y. either (eqb y 3) 0 y) (G.left (step slots k 3 0 none) (v, xs)) (TryMakes 3 (MakesLeave job k))
-  leaves enrolled out idle seen t o wide me fits =
+  pub leaves : v.enrolled ≡ true → v.own.call ≡ Out → v.own.hold ≡ None → job_seen v ≡ job → v.room ≡ room → StepRefines job room slots id (v, xs) k (λ y. either (eqb y 3) 0 y) (G.left (step slots k 3 0 none) (v, xs)) (TryMakes 3 (MakesLeave job k))
+  leaves enrolled out idle seen roomy t o wide me fits =
       let s = o.state in
+      let miss = miss_of job room t o v k in
       let word = get_or t.words k 0 in
       let m = mine_of job room t o id k v me from to in
       let out' : s.call k ≡ Out = m.1.call ∙ out in
@@ -328,7 +332,7 @@ module _ (job : CoreJob) (room : ℕ) (laws : Laws job) (slots id : ℕ) (v : Vi
         w,
         takes k (Slots.Receipt r),
         home,
-        found word 3 (MakesLeave job k) three (left_with job room s k word r (moved job room laws t o id k v w (set t.words k 0) (set t.homes k none) (Leave r) new happens me from to from to record { events = refl; stops = refl; found = refl } (get_or-set_other t.words k (stop_at P) 0 0 (λ e. let low = m.0 in omega arith))
+        found word 3 (MakesLeave job k) three (left_with job room s k word r (moved job room laws t o id k v w (set t.words k 0) (set t.homes k none) (Leave r) new happens me from to from to [] record { events = refl; stops = refl; found = refl; misses = refl; stopped = refl } tt (get_or-set_other t.words k (stop_at P) 0 0 (λ e. let low = m.0 in omega arith))
             (set_status P N t.words s.node s.mark s.value s.status s.hold s.tick (length s.book) o.words k Free m.0)
             (slots_record job room t.homes s.task s.status s.hold s.hold s.book k Free none o.slots m.0 tt (λ home h. h) (λ home h. h))
             (λ own. record {
@@ -366,12 +370,13 @@ module _ (job : CoreJob) (room : ℕ) (laws : Laws job) (slots id : ℕ) (v : Vi
         ),
       ))
       (λ ne. (
-        V.with_found word W.refusing_leave v,
+        V.with_miss miss W.refusing_leave v,
         keeps,
         tt,
-        missed word 3 (MakesLeave job k) ne (looked job room t o id k k v (V.with_found word W.refusing_leave v) me from to from to refl refl (λ h. inl h)
+        missed word 3 (MakesLeave job k) ne (looked job room t o id k k v (V.with_miss miss W.refusing_leave v) me from to from to refl refl (λ h. inl h) (miss ∷ []) refl refl
+            (noted_at job room t o id k v me from to k (λ e. let low = m.0 in omega arith))
             (λ own. record { sits = own.sits; task = own.task; call = own.call; posted = own.posted; told = own.told; entries = own.entries; hold = own.hold; new = own.new; done = own.done; seen = own.seen; since = record { most = own.since.most; early = own.since.early; late = own.since.late; placed = own.since.placed; waits = own.since.waits } })),
-        ((λ three. absurd (ne three)), (λ _. refl), sym from),
+        ((λ three. absurd (ne three)), (λ _. (miss, miss_seen job room t o id k v me from to seen roomy k, refl, refl)), sym from),
       ))
 
   holding : (t : TableState) (o : Shows job room t) (h : HoldView) → get_elem? t.views id ≡ some v → v.own.hold ≡ Some h → HoldKnown job o.state (Some h) k
@@ -385,10 +390,11 @@ module _ (job : CoreJob) (room : ℕ) (laws : Laws job) (slots id : ℕ) (v : Vi
   now_holds h f holds s known = subst (λ (z : Maybe HoldView). HoldKnown job s (W.in_hold f z) k) (sym holds) known
 
   -- the holder looks at the next worker
-  pub looks : (h : HoldView) (u : ℕ) → v.room ≡ call_count job → job_seen v ≡ job → v.own.hold ≡ Some h → u ≡ h.looks → u < job.workers
+  pub looks : (h : HoldView) (u : ℕ) → v.room ≡ call_count job → v.room ≡ room → job_seen v ≡ job → v.own.hold ≡ Some h → u ≡ h.looks → u < job.workers
       → StepRefines job room slots id (v, xs) u (λ y. either (eqb y 1) 2 y) (G.took (step slots u 1 2 none) (v, xs)) (MakesEvent job k (Take u))
-  looks h u roomy seen holds next low t o wide me fits =
+  looks h u roomy same_room seen holds next low t o wide me fits =
       let s = o.state in
+      let miss = miss_of job room t o v u in
       let word = get_or t.words u 0 in
       let m = mine_of job room t o id k v me from to in
       let known = holding t o h me holds in
@@ -412,7 +418,7 @@ module _ (job : CoreJob) (room : ℕ) (laws : Laws job) (slots id : ℕ) (v : Vi
         w,
         takes u (Slots.Record call),
         what.1,
-        moved job room laws t o id k v w (set t.words u 2) (set t.homes u none) (Take u) new happens me from to from to record { events = refl; stops = refl; found = refl } (get_or-set_other t.words (u) (stop_at P) (2) 0 (λ e. omega arith))
+        moved job room laws t o id k v w (set t.words u 2) (set t.homes u none) (Take u) new happens me from to from to [] record { events = refl; stops = refl; found = refl; misses = refl; stopped = refl } tt (get_or-set_other t.words (u) (stop_at P) (2) 0 (λ e. omega arith))
             (subst (λ (z : Maybe Hold). WordsShow P N (set t.words u 2) s.node s.mark s.value (put s.status u Executing) z s.tick (length s.book)) refl
             (flag_same P N (set t.words u 2) s.node s.mark s.value (put s.status u Executing) s.hold (Some (hold_of k h')) s.tick (length s.book) (rw held refl)
             (set_status P N t.words s.node s.mark s.value s.status s.hold s.tick (length s.book) o.words u Executing low)))
@@ -444,13 +450,14 @@ module _ (job : CoreJob) (room : ℕ) (laws : Laws job) (slots id : ℕ) (v : Vi
       let other_status : is_pending (s.status u) ≡ false = other_word (s.status u) (λ e. ne (o.words.statuses u low ∙ e)) in
       let f = W.after_pass word in
       let h' = f h in
-      let w : View = V.with_found word (W.skipping u word) v in
+      let w : View = V.with_miss miss (W.skipping u word) v in
       let new : State = record s { hold = Some (hold_of k h') } in
       let happens : Happens job s k (Take u) new = record { worker_in = m.0; needs = (hold_of k h, (held, refl), next, low); does = take_passes s k u h word held other_status } in (
         w,
         keeps,
         tt,
-        moved job room laws t o id k v w (set t.words u word) t.homes (Take u) new happens me from to from to record { events = refl; stops = refl; found = refl } (get_or-set_other t.words (u) (stop_at P) (word) 0 (λ e. omega arith))
+        moved job room laws t o id k v w (set t.words u word) t.homes (Take u) new happens me from to from to (miss ∷ []) record { events = refl; stops = refl; found = refl; misses = refl; stopped = refl }
+            (noted_at job room t o id k v me from to u (λ e. omega arith)) (get_or-set_other t.words (u) (stop_at P) (word) 0 (λ e. omega arith))
             (subst (λ (ws : List ℕ). WordsShow P N ws s.node s.mark s.value s.status (Some (hold_of k h')) s.tick (length s.book)) (sym (set-get_or t.words u 0))
             (flag_same P N t.words s.node s.mark s.value s.status s.hold (Some (hold_of k h')) s.tick (length s.book) (rw held refl) o.words))
             record {
@@ -462,7 +469,7 @@ module _ (job : CoreJob) (room : ℕ) (laws : Laws job) (slots id : ℕ) (v : Vi
             (λ own. through job laws s new k k (Take u) v w (get_elem? t.homes k) (get_elem? t.homes k) (o.seat k) id o.parts happens refl refl refl (λ d. d) (λ e _. e) record { task = refl; call = refl; told = refl; posted = refl; left = refl; enrolled = refl; saw_done = refl; greatest = refl; before = refl; after = refl; book_seen = refl } (now_holds h f holds new (refl, known.1, known.2, known.3)) own)
             (λ i x y low' ne' other. through job laws s new k x (Take u) y y (get_elem? t.homes x) (get_elem? t.homes x) (o.seat x) i o.parts happens refl refl refl (λ d. d) (λ e _. e) (told_again y)
             (hold_others job s new k x (hold_of k h) (hold_of k h') ne' held refl refl refl y.own.hold other.hold) other),
-        (h, holds, unpublished, (λ one. absurd (ne one)), (λ _. refl), next),
+        (h, holds, unpublished, (λ one. absurd (ne one)), (λ _. (miss, miss_seen job room t o id k v me from to seen same_room u, refl, refl)), next),
       ))
 
   untaken : (s : State) (h : HoldView) (x u : ℕ) (call : OpRecord) → Parts job s → s.hold ≡ Some (hold_of k h) → record_in h.taken u ≡ Some call → among h.answered u ≡ false → x ≡ u → s.call x ≡ NotCalled → ⊥
@@ -499,7 +506,7 @@ module _ (job : CoreJob) (room : ℕ) (laws : Laws job) (slots id : ℕ) (v : Vi
         w,
         gives,
         tt,
-        moved job room laws t o id k v w (set t.words u 3) homes (Answer u r) new happens me from to from to record { events = refl; stops = refl; found = refl } (get_or-set_other t.words (u) (stop_at P) (3) 0 (λ e. omega arith))
+        moved job room laws t o id k v w (set t.words u 3) homes (Answer u r) new happens me from to from to [] record { events = refl; stops = refl; found = refl; misses = refl; stopped = refl } tt (get_or-set_other t.words (u) (stop_at P) (3) 0 (λ e. omega arith))
             (flag_same P N (set t.words u 3) s.node s.mark s.value (put s.status u (Served r)) s.hold (Some (hold_of k h')) s.tick (length s.book) (rw held refl)
             (set_status P N t.words s.node s.mark s.value s.status s.hold s.tick (length s.book) o.words u (Served r) low))
             (slots_record job room t.homes s.task s.status s.hold (Some (hold_of k h')) s.book u (Served r) (some (Slots.Receipt r)) o.slots low refl
@@ -527,7 +534,7 @@ module _ (job : CoreJob) (room : ℕ) (laws : Laws job) (slots id : ℕ) (v : Vi
       let gone : Maybe Hold = None in
       let new : State = record s { hold = gone } in
       let happens : Happens job s k Release new = record { worker_in = m.0; needs = (hold_of k h, (held, refl), looked_all, all); does = refl } in
-      moved job room laws t o id k v w (set t.words (flag_at P) 0) homes Release new happens me from to from to record { events = refl; stops = refl; found = refl } (get_or-set_other t.words (flag_at P) (stop_at P) 0 0 (λ e. omega arith))
+      moved job room laws t o id k v w (set t.words (flag_at P) 0) homes Release new happens me from to from to [] record { events = refl; stops = refl; found = refl; misses = refl; stopped = refl } tt (get_or-set_other t.words (flag_at P) (stop_at P) 0 0 (λ e. omega arith))
       (set_flag P N t.words s.node s.mark s.value s.status s.hold s.tick (length s.book) o.words gone)
       record { wide = wide ∙ o.slots.wide; records = λ u low. rw (far u low) (o.slots.records u low); shop = shop; batches = batches }
       (λ own. reseen job new (get_elem? homes k) (o.seat k) id told k (W.book_after v.own.hold v.own.book_seen) front

@@ -1,5 +1,5 @@
 -- The steps of the job side.
-use Rattle.std.proofs.Common.{ℕ, ◌≡◌, ◌≢◌, ◌<◌, ◌+◌, ◌%◌, ◌^◌, true, false, Option as Maybe, None, Some, List, length, get_or, set, eqb, arith, refl, sym, ap, ◌∙◌, subst, inl, inr, get_or-set_other}
+use Rattle.std.proofs.Common.{ℕ, ◌≡◌, ◌≢◌, ◌<◌, ◌+◌, ◌%◌, ◌^◌, true, false, Option as Maybe, None, Some, List, [], ◌∷◌, length, get_or, set, eqb, arith, refl, sym, ap, ◌∙◌, subst, inl, inr, get_or-set_other}
 use Rattle.std.proofs.lemmas.Bool.Decides.{nat_tests}
 use Rattle.std.proofs.lemmas.Bool.{cases_eq}
 use mathlib.Core.Option.{none, some}
@@ -23,6 +23,7 @@ use Rattle.core_model.specs.Events.{Happens, task_after, value_in}
 use Rattle.core_model.specs.State.{put, CoreJob}
 use Rattle.core_model.specs.Tasks.{is_done}
 use Rattle.core_model.specs.Operations.{leaf_of}
+use Rattle.table_rule.specs.declared.view.Miss.{Miss}
 use Rattle.table_rule.specs.declared.view.View.{View}
 use Rattle.table_rule.specs.declared.slot.Slot.{Slot}
 use Rattle.table_rule.specs.Tasks.{TaskHere, progress_after, job_seen, IsNext}
@@ -36,9 +37,10 @@ use Rattle.table_rule.specs.Steps.{ShowsOne, StepRefines, TryMakes, ArrivalMakes
 use Rattle.table_rule.specs.Shows.{TableState, Shows, AgreesWithView}
 use Rattle.table_rule.specs.Plays.{claimed, drawn, opened, kept, finished, arrived}
 use Rattle.table_rule.specs.Passes.{with_task, claiming, refusing, opening, keeping}
-use Rattle.table_rule.specs.Views.{with_step, with_found}
+use Rattle.table_rule.specs.Views.{with_step, with_miss}
 use Rattle.table_rule.proofs.TableLemmas.Words.{set_node, set_mark, set_value, set_tick}
 use Rattle.table_rule.proofs.TableLemmas.Facts.{is_free}
+use Rattle.table_rule.proofs.TableLemmas.Misses.{miss_of, noted_at, miss_seen}
 use Rattle.table_rule.proofs.TableLemmas.Moved.{mine_of, job_step, looked, found, missed, found_none, found_one, SameBut}
 use Rattle.core_model.proofs.InvariantLemmas.Puts.{put_at, put_other}
 
@@ -64,14 +66,16 @@ module _ (job : CoreJob) (room : ℕ) (laws : Laws job) (slots id : ℕ) (v : Vi
   N = job.plan.count
 
   -- the view after a look or a refused try
-  refused : (t : TableState) (o : Shows job room t) (n word : ℕ) → AgreesWithView job o.state (get_elem? t.homes k) (o.seat k) id v k → AgreesWithView job o.state (get_elem? t.homes k) (o.seat k) id (with_found word (refusing n) v) k
-  refused t o n word m = record { sits = m.sits; task = m.task; call = m.call; posted = m.posted; told = m.told; entries = m.entries; hold = m.hold; new = m.new; done = m.done; seen = m.seen; since = record { most = m.since.most; early = m.since.early; late = m.since.late; placed = m.since.placed; waits = m.since.waits } }
+  refused : (t : TableState) (o : Shows job room t) (n : ℕ) (miss : Miss) → AgreesWithView job o.state (get_elem? t.homes k) (o.seat k) id v k → AgreesWithView job o.state (get_elem? t.homes k) (o.seat k) id (with_miss miss (refusing n) v) k
+  refused t o n miss m = record { sits = m.sits; task = m.task; call = m.call; posted = m.posted; told = m.told; entries = m.entries; hold = m.hold; new = m.new; done = m.done; seen = m.seen; since = record { most = m.since.most; early = m.since.early; late = m.since.late; placed = m.since.placed; waits = m.since.waits } }
 
   -- a claim
-  pub claims : (n : ℕ) → n < job.plan.count → v.own.task ≡ Idle → v.own.call ≢ Out
+  pub claims : v.room ≡ room → (n : ℕ) → n < job.plan.count → v.own.task ≡ Idle → v.own.call ≢ Out
       → StepRefines job room slots id (v, xs) (node_at job.workers n) (λ y. either (eqb y 1) 2 y) (claimed (step slots (node_at job.workers n) 1 2 none) (v, xs)) (TryMakes 1 (MakesEvent job k (Claim n)))
-  claims n below idle inside t o wide me fits =
+  claims roomy n below idle inside t o wide me fits =
       let s = o.state in
+      let place = node_at job.workers n in
+      let miss = miss_of job room t o v place in
       let word = get_or t.words (node_at job.workers n) 0 in
       let m = mine_of job room t o id k v me from to in
       let inside' : s.call k ≢ Out = λ e. inside (sym m.1.call ∙ e) in
@@ -85,17 +89,18 @@ module _ (job : CoreJob) (room : ℕ) (laws : Laws job) (slots id : ℕ) (v : Vi
             record { worker_in = m.0; needs = (is_free job s k o.parts inside', m.1.task ∙ idle, ready); does = refl }
             me from to enrolled inside' inside'
             record { from = refl; to = refl; told = refl; left = refl; hold = refl; enrolled = refl; saw_done = refl; greatest = refl; before = refl; after = refl; book_seen = refl }
-            record { events = refl; stops = refl; found = refl } (get_or-set_other t.words (node_at P n) (stop_at P) 2 0 (λ e. omega arith))
+            record { events = refl; stops = refl; found = refl; misses = refl; stopped = refl } (get_or-set_other t.words (node_at P n) (stop_at P) 2 0 (λ e. omega arith))
             refl m.1.call (λ x ne. refl) (root_kept s.node n IsTaken (ap is_done ready))
             (set_node P N t.words s.node s.mark s.value s.status s.hold s.tick (length s.book) o.words n IsTaken below)),
         (n, ap (λ (p : ℕ). node_at p n) (sym sized), (λ _. refl), (λ ne. absurd (ne one))),
       ))
       (λ ne. (
-        with_found word (refusing n) v,
+        with_miss miss (refusing n) v,
         keeps,
         tt,
-        missed word 1 (MakesEvent job k (Claim n)) ne (looked job room t o id k (node_at job.workers n) v (with_found word (refusing n) v) me from to from to refl refl (λ h. inl h) (refused t o n word)),
-        (n, ap (λ (p : ℕ). node_at p n) (sym sized), (λ one. absurd (ne one)), (λ _. refl)),
+        missed word 1 (MakesEvent job k (Claim n)) ne (looked job room t o id k place v (with_miss miss (refusing n) v) me from to from to refl refl (λ h. inl h) (miss ∷ []) refl refl
+            (noted_at job room t o id k v me from to place (λ e. omega arith)) (refused t o n miss)),
+        (n, ap (λ (p : ℕ). node_at p n) (sym sized), (λ one. absurd (ne one)), (λ _. (miss, miss_seen job room t o id k v me from to known roomy place, refl, refl))),
       ))
 
   same : (w : View) → w.own.worker ≡ v.own.worker → w.to ≡ v.to → w.own.told ≡ None → w.own.left ≡ v.own.left → w.own.hold ≡ v.own.hold → w.enrolled ≡ v.enrolled → w.saw_done ≡ v.saw_done → w.own.greatest ≡ v.own.greatest → w.own.before ≡ v.own.before → w.own.after ≡ v.own.after → w.own.book_seen ≡ v.own.book_seen → SameBut v w
@@ -122,7 +127,7 @@ module _ (job : CoreJob) (room : ℕ) (laws : Laws job) (slots id : ℕ) (v : Vi
         tt,
         job_step job room laws t o id k v w (set t.words (tick_at P) ((word + 1) % 2 ^ 64)) event s.node s.mark s.value (s.tick + 1) s.call (y s.tick)
             (happens t o me) me from to enrolled (outside t o me inside) (outside t o me inside) (same w refl refl refl refl refl refl refl refl refl refl refl)
-            record { events = refl; stops = refl; found = refl } (get_or-set_other t.words (tick_at P) (stop_at P) ((word + 1) % 2 ^ 64) 0 (λ e. omega arith))
+            record { events = refl; stops = refl; found = refl; misses = refl; stopped = refl } (get_or-set_other t.words (tick_at P) (stop_at P) ((word + 1) % 2 ^ 64) 0 (λ e. omega arith))
             (ap y o.words.ticks) m.1.call (λ x ne. refl) (λ done. done)
             (subst (λ (z : ℕ). WordsShow P N (set t.words (tick_at P) z) s.node s.mark s.value s.status s.hold (s.tick + 1) (length s.book)) (sym next)
             (set_tick P N t.words s.node s.mark s.value s.status s.hold s.tick (length s.book) o.words (s.tick + 1))),
@@ -176,7 +181,7 @@ module _ (job : CoreJob) (room : ℕ) (laws : Laws job) (slots id : ℕ) (v : Vi
   draws_due here due inside = draws_by (next_act job v.own.task v.own.call) here refl due inside
 
   -- a node that is not the root gets this progress
-  stores : (event : Event) (n : ℕ) (x : Progress) (y : Task) (w : View) → n < N → w.own.task ≡ y → w.own.call ≡ v.own.call → SameBut v w → AddsEvent v w event → v.own.call ≢ Out
+  stores : (event : Event) (n : ℕ) (x : Progress) (y : Task) (w : View) → n < N → w.own.task ≡ y → w.own.call ≡ v.own.call → SameBut v w → AddsEvent v w event [] → v.own.call ≢ Out
       → (t : TableState) (o : Shows job room t) → get_elem? t.views id ≡ some v
       → Happens job o.state k event (record o.state { node = put o.state.node n x; task = put o.state.task k y })
       → (is_done (o.state.node 0) ≡ true → is_done (put o.state.node n x 0) ≡ true)
@@ -205,7 +210,7 @@ module _ (job : CoreJob) (room : ℕ) (laws : Laws job) (slots id : ℕ) (v : Vi
         w,
         keeps,
         tt,
-        stores event n Ready y w side.0 refl refl (same w refl refl refl refl refl refl refl refl refl refl refl) record { events = refl; stops = refl; found = refl } inside t o me
+        stores event n Ready y w side.0 refl refl (same w refl refl refl refl refl refl refl refl refl refl refl) record { events = refl; stops = refl; found = refl; misses = refl; stopped = refl } inside t o me
             (stands.happens o.state k m.0 (is_free job o.state k o.parts (outside t o me inside)) m.1.task) (far o.state.node n Ready side.1),
         (λ a b e next. let both = is_due (acts.Open a b e) (acts.Open n y event) due next in let at : n ≡ a = cc in let left : y ≡ b = cc in let by : event ≡ e = cc in
             λ i. (with_step (opening (at i) (by i) (left i)) v, xs)),
@@ -224,7 +229,7 @@ module _ (job : CoreJob) (room : ℕ) (laws : Laws job) (slots id : ℕ) (v : Vi
         tt,
         job_step job room laws t o id k v w (set t.words i x) (Keep n start x) s.node s.mark (put s.value n (Some x)) s.tick (put s.call k NotCalled) (Kept n start)
             record { worker_in = m.0; needs = (is_free job s k o.parts (outside t o me inside), m.1.task ∙ task, ap (value_in (job.act (leaf_of (job.plan.kind n)))) m.1.call ∙ is); does = refl }
-            me from to enrolled (outside t o me inside) inside' (same w refl refl refl refl refl refl refl refl refl refl refl) record { events = refl; stops = refl; found = refl }
+            me from to enrolled (outside t o me inside) inside' (same w refl refl refl refl refl refl refl refl refl refl refl) record { events = refl; stops = refl; found = refl; misses = refl; stopped = refl }
             (get_or-set_other t.words i (stop_at P) x 0 (λ e. omega arith)) refl (put_at s.call k k NotCalled refl) (λ z ne. put_other s.call k z NotCalled ne) (λ done. done)
             (subst (λ (j : ℕ). WordsShow P N (set t.words j x) s.node s.mark (put s.value n (Some x)) s.status s.hold s.tick (length s.book)) (sym at)
             (set_value P N t.words s.node s.mark s.value s.status s.hold s.tick (length s.book) o.words n x below)),
@@ -243,7 +248,7 @@ module _ (job : CoreJob) (room : ℕ) (laws : Laws job) (slots id : ℕ) (v : Vi
         w,
         keeps,
         tt,
-        stores event n x (task_after n) w stands.below refl refl (same w refl refl refl refl refl refl refl refl refl refl refl) record { events = refl; stops = refl; found = refl } inside t o me
+        stores event n x (task_after n) w stands.below refl refl (same w refl refl refl refl refl refl refl refl refl refl refl) record { events = refl; stops = refl; found = refl; misses = refl; stopped = refl } inside t o me
             (stands.happens o.state k m.0 (is_free job o.state k o.parts (outside t o me inside)) m.1.task) (root_done o.state.node n x (stands.done k)),
         (λ a e next. let both = is_due (acts.Finish a e) (acts.Finish n event) due next in let at : n ≡ a = cc in let by : event ≡ e = cc in
             λ i. (with_step (with_task (by i) (task_after (at i))) v, xs)),
@@ -274,7 +279,7 @@ module _ (job : CoreJob) (room : ℕ) (laws : Laws job) (slots id : ℕ) (v : Vi
           tt,
           found_none word (MakesEvent job k (ArriveFirst p l r n)) (MakesEvent job k (ArriveSecond p l r n)) zero (job_step job room laws t o id k v first (set t.words i (arrived_word word)) (ArriveFirst p l r n) s.node (put s.mark p 1) s.value s.tick s.call Idle
               record { worker_in = m.0; needs = (free, m.1.task ∙ task, kind, side, sym at ∙ zero); does = refl }
-              me from to enrolled (outside t o me inside) (outside t o me inside) (same first refl refl refl refl refl refl refl refl refl refl refl) record { events = refl; stops = refl; found = refl } far_stop refl m.1.call (λ z ne. refl) (λ done. done)
+              me from to enrolled (outside t o me inside) (outside t o me inside) (same first refl refl refl refl refl refl refl refl refl refl refl) record { events = refl; stops = refl; found = refl; misses = refl; stopped = refl } far_stop refl m.1.call (λ z ne. refl) (λ done. done)
               (subst (λ (j : ℕ). WordsShow P N (set t.words j (arrived_word word)) s.node (put s.mark p 1) s.value s.status s.hold s.tick (length s.book)) (sym is) (subst (λ (z : ℕ). WordsShow P N (set t.words (mark_at P N p) z) s.node (put s.mark p 1) s.value s.status s.hold s.tick (length s.book)) (let one : arrived_word word ≡ 1 = omega (arith, zero) in sym one)
               (set_mark P N t.words s.node s.mark s.value s.status s.hold s.tick (length s.book) o.words p 1 below)))),
           (λ a b c d next. let both = is_due (acts.Arrive a b c d) (acts.Arrive p l r n) due next in
@@ -287,7 +292,7 @@ module _ (job : CoreJob) (room : ℕ) (laws : Laws job) (slots id : ℕ) (v : Vi
           tt,
           found_one word (MakesEvent job k (ArriveFirst p l r n)) (MakesEvent job k (ArriveSecond p l r n)) ne (job_step job room laws t o id k v second (set t.words i (arrived_word word)) (ArriveSecond p l r n) s.node (put s.mark p 2) s.value s.tick s.call (Handed p)
               record { worker_in = m.0; needs = (free, m.1.task ∙ task, kind, side, omega (arith, at, few, ne)); does = refl }
-              me from to enrolled (outside t o me inside) (outside t o me inside) (same second refl refl refl refl refl refl refl refl refl refl refl) record { events = refl; stops = refl; found = refl } far_stop refl m.1.call (λ z ne'. refl) (λ done. done)
+              me from to enrolled (outside t o me inside) (outside t o me inside) (same second refl refl refl refl refl refl refl refl refl refl refl) record { events = refl; stops = refl; found = refl; misses = refl; stopped = refl } far_stop refl m.1.call (λ z ne'. refl) (λ done. done)
               (subst (λ (j : ℕ). WordsShow P N (set t.words j (arrived_word word)) s.node (put s.mark p 2) s.value s.status s.hold s.tick (length s.book)) (sym is) (subst (λ (z : ℕ). WordsShow P N (set t.words (mark_at P N p) z) s.node (put s.mark p 2) s.value s.status s.hold s.tick (length s.book)) (let two : arrived_word word ≡ 2 = omega (arith, at, few, ne) in sym two)
               (set_mark P N t.words s.node s.mark s.value s.status s.hold s.tick (length s.book) o.words p 2 below)))),
           (λ a b c d next. let both = is_due (acts.Arrive a b c d) (acts.Arrive p l r n) due next in

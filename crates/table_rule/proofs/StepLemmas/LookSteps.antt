@@ -1,6 +1,6 @@
 -- The looks at the root, the value of a source, the batch count and the stop word, the set of the stop word, and claims
 -- past the last node.
-use Rattle.std.proofs.Common.{ℕ, ◌≡◌, ◌<◌, ◌≤◌, ◌+◌, ◌%◌, ◌⊎◌, min, true, Option as Maybe, None, Some, List, length, get_or, set, eqb, arith, refl, sym, ap, ◌∙◌, subst, inl, inr, get_or-set_same}
+use Rattle.std.proofs.Common.{ℕ, ◌≡◌, ◌<◌, ◌≤◌, ◌+◌, ◌%◌, ◌⊎◌, min, true, Option as Maybe, None, Some, List, [], ◌∷◌, length, get_or, set, eqb, arith, refl, sym, ap, ◌∙◌, subst, inl, inr, ⊎_elim, get_or-set_same}
 use Rattle.std.proofs.lemmas.Bool.{cases_eq}
 use mathlib.Core.Option.{none}
 use lib.ListN.{get_elem?}
@@ -25,11 +25,13 @@ use Rattle.table_rule.specs.Laws.{Laws}
 use Rattle.table_rule.specs.Steps.{ShowsOne, StepRefines, Stutters}
 use Rattle.table_rule.specs.Shows.{TableState, Shows, SinceKnown}
 use Rattle.table_rule.specs.Plays.{looked_at_root, looked_at_value, heard, strayed, stopped_all, looked_at_stop}
-use Rattle.table_rule.specs.Passes.{finding_stop, finding_none, refusing, least_told, stopping, telling}
-use Rattle.table_rule.specs.Views.{with_step, with_found, with_since, seeing_done, seeing_undone}
+use Rattle.table_rule.specs.Passes.{finding_stop, finding_none, refusing, least_told, telling}
+use Rattle.table_rule.specs.Views.{with_step, with_miss, with_since, with_stop, seeing_done, seeing_undone}
+use Rattle.table_rule.specs.Tasks.{job_seen}
+use Rattle.table_rule.proofs.TableLemmas.Misses.{miss_of, noted_at, noted_at_stop, miss_seen, moment_seen, all_before}
 use Rattle.table_rule.proofs.TableLemmas.Facts.{is_trapped}
 use Rattle.table_rule.proofs.TableLemmas.Moved.{mine_of, at_below, looked, renewed}
-use Rattle.table_rule.proofs.TableLemmas.Traces.{stop_set}
+use Rattle.table_rule.proofs.TableLemmas.Traces.{misses_kept, stop_set}
 use Rattle.table_rule.proofs.TableLemmas.Through.{again}
 use Rattle.table_rule.proofs.TableLemmas.Words.{set_stop}
 
@@ -59,15 +61,16 @@ module _ (job : CoreJob) (room : ℕ) (laws : Laws job) (slots id : ℕ) (v : Vi
   abbrev P : ℕ
   P = job.workers
 
-  pub looks_at_root : (i : ℕ) → v.workers ≡ P → i ≡ node_at P 0 → 0 < job.plan.count → StepRefines job room slots id (v, xs) i (λ y. y) (looked_at_root (step slots i 0 0 none) (v, xs)) (Stutters)
-  looks_at_root i sized is any t o wide me fits =
+  pub looks_at_root : (i : ℕ) → v.workers ≡ P → i ≡ node_at P 0 → 0 < job.plan.count → job_seen v ≡ job → v.room ≡ room → StepRefines job room slots id (v, xs) i (λ y. y) (looked_at_root (step slots i 0 0 none) (v, xs)) (Stutters)
+  looks_at_root i sized is any known roomy t o wide me fits =
       let word = get_or t.words i 0 in
+      let miss = miss_of job room t o v i in
       let at = ap (λ (j : ℕ). get_or t.words j 0) is ∙ o.words.progress 0 any in elim (cases_eq (word % 4) 3) [
         | inl e ↦ (
           seeing_done v,
           keeps,
           tt,
-          looked job room t o id k i v (seeing_done v) me from to from to refl refl (λ h. inl h)
+          looked job room t o id k i v (seeing_done v) me from to from to refl refl (λ h. inl h) [] refl refl tt
               (λ m. record {
                 sits = m.sits;
                 task = m.task;
@@ -83,7 +86,14 @@ module _ (job : CoreJob) (room : ℕ) (laws : Laws job) (slots id : ℕ) (v : Vi
               }),
           ((λ _. refl), (λ ne. absurd (ne e)), omega (arith, is, sized)),
         )
-        | inr ne ↦ (seeing_undone word v, keeps, tt, looked job room t o id k i v (seeing_undone word v) me from to from to refl refl (λ h. inl h) (λ m. again job o.state (get_elem? t.homes k) (o.seat k) id v _ k record { task = refl; call = refl; told = refl; posted = refl; left = refl; enrolled = refl; saw_done = refl; greatest = refl; before = refl; after = refl; book_seen = refl } refl m), ((λ e. absurd (ne e)), (λ _. refl), omega (arith, is, sized)))
+        | inr ne ↦ (
+          seeing_undone miss v,
+          keeps,
+          tt,
+          looked job room t o id k i v (seeing_undone miss v) me from to from to refl refl (λ h. inl h) (miss ∷ []) refl refl (noted_at job room t o id k v me from to i (λ e. omega (arith, is, e)))
+              (λ m. again job o.state (get_elem? t.homes k) (o.seat k) id v _ k record { task = refl; call = refl; told = refl; posted = refl; left = refl; enrolled = refl; saw_done = refl; greatest = refl; before = refl; after = refl; book_seen = refl } refl m),
+          ((λ e. absurd (ne e)), (λ _. (miss, miss_seen job room t o id k v me from to known roomy i, refl, refl)), omega (arith, is, sized)),
+        )
       ]
 
   hears_since : (t : TableState) (o : Shows job room t) (n : ℕ) → n ≡ length o.state.book → SinceKnown job o.state v k → SinceKnown job o.state (with_since n v) k
@@ -104,26 +114,27 @@ module _ (job : CoreJob) (room : ℕ) (laws : Laws job) (slots id : ℕ) (v : Vi
         with_since word v,
         keeps,
         tt,
-        looked job room t o id k (count_at P) v (with_since word v) me from to from to refl refl (λ h. inl h)
+        looked job room t o id k (count_at P) v (with_since word v) me from to from to refl refl (λ h. inl h) [] refl refl tt
             (λ m. record { sits = m.sits; task = m.task; call = m.call; posted = m.posted; told = m.told; entries = m.entries; hold = m.hold; new = m.new; done = m.done; seen = m.seen; since = hears_since t o word o.words.batches m.since }),
         (refl, ap count_at (sym sized)),
       )
 
   -- a claim past the last node: a status is at most 3, so the exchange, which wants at least 4, is refused
-  pub strays : (n : ℕ) → v.nodes ≤ n → 0 < P → StepRefines job room slots id (v, xs) 0 (λ y. either (eqb y (4 + n)) 0 y) (strayed (step slots 0 (4 + n) 0 none) (v, xs)) (Stutters)
-  strays n far any t o wide me fits =
+  pub strays : (n : ℕ) → v.nodes ≤ n → 0 < P → job_seen v ≡ job → v.room ≡ room → StepRefines job room slots id (v, xs) 0 (λ y. either (eqb y (4 + n)) 0 y) (strayed (step slots 0 (4 + n) 0 none) (v, xs)) (Stutters)
+  strays n far any known roomy t o wide me fits =
       let word = get_or t.words 0 0 in
+      let miss = miss_of job room t o v 0 in
       let few = few_status (o.state.status 0) in
       let at = o.words.statuses 0 any in
       exchanged word (4 + n) 0 (λ y. (w : View) × (a : Act Slot) × Valid t.homes xs a × ShowsOne job room (Stutters o.state word) (stepped t 0 y id xs w a) × strayed (step slots 0 (4 + n) 0 none) (v, xs) word (w, carried_after xs a))
       (λ e. absurd (omega (arith, few, at, e)))
       (λ ne. (
-        with_found word (refusing n) v,
+        with_miss miss (refusing n) v,
         keeps,
         tt,
-        looked job room t o id k 0 v (with_found word (refusing n) v) me from to from to refl refl (λ h. inl h)
+        looked job room t o id k 0 v (with_miss miss (refusing n) v) me from to from to refl refl (λ h. inl h) (miss ∷ []) refl refl (noted_at job room t o id k v me from to 0 (λ e. omega arith))
             (λ m. again job o.state (get_elem? t.homes k) (o.seat k) id v _ k record { task = refl; call = refl; told = refl; posted = refl; left = refl; enrolled = refl; saw_done = refl; greatest = refl; before = refl; after = refl; book_seen = refl } refl m),
-        (n, refl, refl, far),
+        (n, refl, (miss, miss_seen job room t o id k v me from to known roomy 0, refl, refl), far),
       ))
 
   -- the value of the source of the leaf that has started is looked at
@@ -140,7 +151,7 @@ module _ (job : CoreJob) (room : ℕ) (laws : Laws job) (slots id : ℕ) (v : Vi
         with_step (telling word) v,
         keeps,
         tt,
-        looked job room t o id k i v (with_step (telling word) v) me from to from to refl refl (λ h. inl h)
+        looked job room t o id k i v (with_step (telling word) v) me from to from to refl refl (λ h. inl h) [] refl refl tt
             (λ own. record {
               sits = own.sits;
               task = own.task;
@@ -158,22 +169,44 @@ module _ (job : CoreJob) (room : ℕ) (laws : Laws job) (slots id : ℕ) (v : Vi
       )
 
   -- the stop word is set
-  pub stops : v.workers ≡ P → StepRefines job room slots id (v, xs) (stop_at P) (λ y. 1) (λ y. stopped_all (step slots (stop_at P) 1 0 none) (v, xs) 1) (Stutters)
-  stops sized t o wide me fits =
-      let s = o.state in (
-        with_step stopping v,
+  pub stops : v.workers ≡ P → job_seen v ≡ job → v.room ≡ room → StepRefines job room slots id (v, xs) (stop_at P) (λ y. 1) (λ y. stopped_all (step slots (stop_at P) 1 0 none) (v, xs) 1) (Stutters)
+  stops sized known roomy t o wide me fits =
+      let s = o.state in
+      let moment = length o.trace in
+      let w : View = with_stop moment v in
+      let word = get_or t.words (stop_at P) 0 in (
+        w,
         keeps,
         tt,
-        renewed job room t o id k v (with_step stopping v) (set t.words (stop_at P) 1) me from to from to refl
-            (stop_set t.views id v (with_step stopping v) (get_or t.words (stop_at P) 0) (get_or (set t.words (stop_at P) 1) (stop_at P) 0) (at_below t.views id v me) me (get_or-set_same t.words (stop_at P) 1 0 (omega (arith, o.words.wide))) (omega arith) o.stop)
+        renewed job room t o id k v w (set t.words (stop_at P) 1) me from to from to refl
+            (misses_kept job t.views id k v w o.trace o.trace [] word me from to from to refl tt (λ x m h. h) o.misses)
+            (stop_set (stop_at P) t.views id v w word (get_or (set t.words (stop_at P) 1) (stop_at P) 0) moment me (at_below t.views id v me) (omega arith) (omega arith)
+            (get_or-set_same t.words (stop_at P) 1 0 (omega (arith, o.words.wide))) (omega arith) refl refl (λ i x e some_worker. all_before job room t o i x.own.worker x e (omega arith) (omega arith)) o.stop)
             (set_stop P job.plan.count t.words s.node s.mark s.value s.status s.hold s.tick (length s.book) o.words 1)
             (λ m. again job o.state (get_elem? t.homes k) (o.seat k) id v _ k record { task = refl; call = refl; told = refl; posted = refl; left = refl; enrolled = refl; saw_done = refl; greatest = refl; before = refl; after = refl; book_seen = refl } refl m),
-        (refl, ap stop_at (sym sized), refl),
+        ((moment, moment_seen job room t o id k v me from to known roomy, refl), ap stop_at (sym sized), refl),
       )
 
   -- and looked at
-  pub looks_at_stop : v.workers ≡ P → StepRefines job room slots id (v, xs) (stop_at P) (λ y. y) (looked_at_stop (step slots (stop_at P) 0 0 none) (v, xs)) (Stutters)
-  looks_at_stop sized t o wide me fits = elim (cases_eq (get_or t.words (stop_at P) 0) 1) [
-    | inl e ↦ (with_step finding_stop v, keeps, tt, looked job room t o id k (stop_at P) v (with_step finding_stop v) me from to from to refl refl (λ _. inr e) (λ m. again job o.state (get_elem? t.homes k) (o.seat k) id v _ k record { task = refl; call = refl; told = refl; posted = refl; left = refl; enrolled = refl; saw_done = refl; greatest = refl; before = refl; after = refl; book_seen = refl } refl m), ((λ _. refl), (λ ne. absurd (ne e)), ap stop_at (sym sized)))
-    | inr ne ↦ (with_found (get_or t.words (stop_at P) 0) finding_none v, keeps, tt, looked job room t o id k (stop_at P) v (with_found (get_or t.words (stop_at P) 0) finding_none v) me from to from to refl refl (λ h. inl h) (λ m. again job o.state (get_elem? t.homes k) (o.seat k) id v _ k record { task = refl; call = refl; told = refl; posted = refl; left = refl; enrolled = refl; saw_done = refl; greatest = refl; before = refl; after = refl; book_seen = refl } refl m), ((λ e. absurd (ne e)), (λ _. refl), ap stop_at (sym sized)))
-  ]
+  pub looks_at_stop : v.workers ≡ P → job_seen v ≡ job → v.room ≡ room → StepRefines job room slots id (v, xs) (stop_at P) (λ y. y) (looked_at_stop (step slots (stop_at P) 0 0 none) (v, xs)) (Stutters)
+  looks_at_stop sized known roomy t o wide me fits =
+      let word = get_or t.words (stop_at P) 0 in
+      let miss = miss_of job room t o v (stop_at P) in elim (cases_eq word 1) [
+        | inl e ↦ (
+          with_step finding_stop v,
+          keeps,
+          tt,
+          looked job room t o id k (stop_at P) v (with_step finding_stop v) me from to from to refl refl (λ _. inr e) [] refl refl tt
+              (λ m. again job o.state (get_elem? t.homes k) (o.seat k) id v _ k record { task = refl; call = refl; told = refl; posted = refl; left = refl; enrolled = refl; saw_done = refl; greatest = refl; before = refl; after = refl; book_seen = refl } refl m),
+          ((λ _. refl), (λ ne. absurd (ne e)), ap stop_at (sym sized)),
+        )
+        | inr ne ↦
+            let zero : word ≡ 0 = ⊎_elim (λ z. z) (λ one. absurd (ne one)) o.stop.known in (
+              with_miss miss finding_none v,
+              keeps,
+              tt,
+              looked job room t o id k (stop_at P) v (with_miss miss finding_none v) me from to from to refl refl (λ h. inl h) (miss ∷ []) refl refl (noted_at_stop job room t o id k v me from to zero)
+                  (λ m. again job o.state (get_elem? t.homes k) (o.seat k) id v _ k record { task = refl; call = refl; told = refl; posted = refl; left = refl; enrolled = refl; saw_done = refl; greatest = refl; before = refl; after = refl; book_seen = refl } refl m),
+              ((λ e. absurd (ne e)), (λ _. (zero, (miss, miss_seen job room t o id k v me from to known roomy (stop_at P), refl, refl))), ap stop_at (sym sized)),
+            )
+      ]

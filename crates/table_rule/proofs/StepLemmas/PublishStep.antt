@@ -211,7 +211,7 @@ module _ (job : CoreJob) (room : ℕ) (laws : Laws job) (slots id : ℕ) (v : Vi
         v,
         keeps,
         tt,
-        looked job room t o id k i v v me from to from to refl refl (λ h. inl h) (λ m. m),
+        looked job room t o id k i v v me from to from to refl refl (λ h. inl h) [] refl refl tt (λ m. m),
         (
           refl,
           λ h batch holds due'.
@@ -254,7 +254,7 @@ module _ (job : CoreJob) (room : ℕ) (laws : Laws job) (slots id : ℕ) (v : Vi
         w,
         gives,
         tt,
-        moved job room laws t o id k v w (set t.words (count_at P) ((word + 1) % 2 ^ 64)) homes Publish new happens me from to from to record { events = refl; stops = refl; found = refl } (get_or-set_other t.words (count_at P) (stop_at P) ((word + 1) % 2 ^ 64) 0 (λ e. omega arith))
+        moved job room laws t o id k v w (set t.words (count_at P) ((word + 1) % 2 ^ 64)) homes Publish new happens me from to from to [] record { events = refl; stops = refl; found = refl; misses = refl; stopped = refl } tt (get_or-set_other t.words (count_at P) (stop_at P) ((word + 1) % 2 ^ 64) 0 (λ e. omega arith))
             (subst (λ (z : ℕ). WordsShow P N (set t.words (count_at P) z) s.node s.mark s.value s.status (published s.hold) s.tick (length (s.book ++ batch ∷ []))) (sym count)
             (flag_same P N (set t.words (count_at P) (length (s.book ++ batch ∷ []))) s.node s.mark s.value s.status s.hold (published s.hold) s.tick (length (s.book ++ batch ∷ [])) (rw held refl)
             (set_count P N t.words s.node s.mark s.value s.status s.hold s.tick (length s.book) o.words (length (s.book ++ batch ∷ [])))))

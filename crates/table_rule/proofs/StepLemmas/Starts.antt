@@ -22,8 +22,9 @@ use Rattle.sp_order.specs.Jobs.{JobValue}
 use Rattle.core_model.specs.State.{opening_core}
 use Rattle.core_model.specs.Runs.{Step}
 use Rattle.table_rule.specs.Words.{stop_at}
-use Rattle.table_rule.proofs.TableLemmas.Traces.{agree_still, stop_still, stop_cut}
-use Rattle.table_rule.specs.Shows.{reserved, SlotHome, RecordAt, AgreesWithView, HasSeat, EventsAgree, StopShows, Shows}
+use Rattle.std.specs.List.{AllByRecursion}
+use Rattle.table_rule.proofs.TableLemmas.Traces.{agree_still, misses_kept, stop_still, SameNotes, stop_cut}
+use Rattle.table_rule.specs.Shows.{reserved, SlotHome, RecordAt, AgreesWithView, HasSeat, EventsAgree, IsTrueIn, MissesAgree, IsBeforeSet, StopShows, Shows}
 use Rattle.table_rule.specs.Views.{newcomer}
 use Rattle.table_rule.specs.Plays.{enrolled}
 use Rattle.table_rule.specs.Steps.{ShowsOne, StepRefines, SplitStutters, Stutters}
@@ -90,22 +91,48 @@ agree_cut views id v steps me some_left old i u x e lo hi = ⊎_elim
     old id v x me lo' (omega arith) ∙ ap (λ (y : View). y.own.events) q.0)
     (at_snoc_at (set views id (rest_of v)) (pass_of v) u i e)
 
--- and so are its sets of the stop word
-stop_both : (views : List View) (id : ℕ) (v : View) (word : ℕ) → get_elem? views id ≡ some v → StopShows word views → StopShows word (set views id (rest_of v) ++ pass_of v ∷ [])
-stop_both views id v word me =
-    stop_cut views id v (rest_of v) (pass_of v) word
+-- and so are the misses
+misses_cut : (job : CoreJob) (views : List View) (id : ℕ) (v : View) (steps : List Step) → get_elem? views id ≡ some v → v.own.worker < v.to → MissesAgree job views steps → MissesAgree job (set views id (rest_of v) ++ pass_of v ∷ []) steps
+misses_cut job views id v steps me some_left old i u x e lo hi = ⊎_elim
+    (λ q. ⊎_elim
+    (λ r.
+    let lo' : v.own.worker + 1 ≤ x = subst (λ (y : View). y.own.worker ≤ x) (sym r.1) lo in
+    let hi' : x < v.to = subst (λ (y : View). x < y.to) (sym r.1) hi in
+    subst (λ (y : View). AllByRecursion (IsTrueIn job x steps) y.misses) r.1 (old id v x me (omega arith) hi'))
+    (λ r. old i u x r.1 lo hi)
+    (at_set views id i (rest_of v) u q))
+    (λ q.
+    let lo' : v.own.worker ≤ x = subst (λ (y : View). y.own.worker ≤ x) (sym q.0) lo in
+    let hi' : x < v.own.worker + 1 = subst (λ (y : View). x < y.to) (sym q.0) hi in
+    subst (λ (y : View). AllByRecursion (IsTrueIn job x steps) y.misses) q.0 (old id v x me lo' (omega arith)))
+    (at_snoc_at (set views id (rest_of v)) (pass_of v) u i e)
+
+-- and the notes of the stop word
+rest_notes : (v : View) → SameNotes (rest_of v) v
+rest_notes v = record { stops = refl; found = refl; misses = refl; stopped = refl; some_worker = λ low. omega (arith, low) }
+
+pass_notes : (v : View) → v.own.worker < v.to → SameNotes (pass_of v) v
+pass_notes v some_left = record { stops = refl; found = refl; misses = refl; stopped = refl; some_worker = λ _. some_left }
+
+same_notes : (v : View) → SameNotes v v
+same_notes v = record { stops = refl; found = refl; misses = refl; stopped = refl; some_worker = λ low. low }
+
+stop_both : (stop : ℕ) (views : List View) (id : ℕ) (v : View) (word : ℕ) → get_elem? views id ≡ some v → v.own.worker < v.to → StopShows stop word views → StopShows stop word (set views id (rest_of v) ++ pass_of v ∷ [])
+stop_both stop views id v word me some_left =
+    let cut = set views id (rest_of v) in
+    stop_cut stop views id v (rest_of v) (pass_of v) word
     (λ i u e. ⊎_elim
     (λ q. ⊎_elim
-    (λ r. (id, v, me, ap (λ (y : View). y.own.stops) (sym r.1), ap (λ (y : View). y.own.stops_found) (sym r.1)))
-    (λ r. (i, u, r.1, refl, refl))
+    (λ r. (id, v, me, subst (λ (y : View). SameNotes y v) r.1 (rest_notes v)))
+    (λ r. (i, u, r.1, same_notes u))
     (at_set views id i (rest_of v) u q))
-    (λ q. (id, v, me, ap (λ (y : View). y.own.stops) (sym q.0), ap (λ (y : View). y.own.stops_found) (sym q.0)))
-    (at_snoc_at (set views id (rest_of v)) (pass_of v) u i e))
-    (λ i u e. elim (cases_eq i id) [
+    (λ q. (id, v, me, subst (λ (y : View). SameNotes y v) q.0 (pass_notes v some_left)))
+    (at_snoc_at cut (pass_of v) u i e))
+    (λ i u e some_u. elim (cases_eq i id) [
       | inl is ↦
           let same : u ≡ v = some-injective _ _ (sym e ∙ (ap (λ (j : ℕ). get_elem? views j) is ∙ me)) in
-          (id, rest_of v, at_longer (set views id (rest_of v)) (pass_of v ∷ []) id (rest_of v) (set_here views id (rest_of v) (at_below views id v me)), ap (λ (y : View). y.own.stops) (sym same))
-      | inr ne ↦ (i, u, at_longer (set views id (rest_of v)) (pass_of v ∷ []) i u (set_else views id i (rest_of v) ne ∙ e), refl)
+          (length cut, pass_of v, at_last cut (pass_of v) (length cut) refl, ap (λ (y : View). y.own.stops) (sym same), omega arith)
+      | inr ne ↦ (i, u, at_longer cut (pass_of v ∷ []) i u (set_else views id i (rest_of v) ne ∙ e), refl, some_u)
     ])
 
 -- a pass is split off
@@ -150,7 +177,8 @@ splits job room id v some_left t o me =
         ready = o.ready;
         reached = o.reached;
         events = agree_cut t.views id v o.trace me some_left o.events;
-        stop = stop_both t.views id v (get_or t.words (stop_at job.workers) 0) me o.stop;
+        misses = misses_cut job t.views id v o.trace me some_left o.misses;
+        stop = stop_both (stop_at job.workers) t.views id v (get_or t.words (stop_at job.workers) 0) me some_left o.stop;
       },
       refl,
     )
@@ -215,7 +243,9 @@ enrols job room slots id j v xs k from to fresh t o wide me fits =
           ready = o.ready;
           reached = o.reached;
           events = agree_still t.views id k v w o.trace me from to from to refl o.events;
-          stop = stop_still t.views id v w (get_or t.words (stop_at job.workers) 0) (get_or t.words (stop_at job.workers) 0) (at_below t.views id v me) me refl refl (λ h. inl h) o.stop;
+          misses = misses_kept job t.views id k v w o.trace o.trace [] (get_or t.words (stop_at job.workers) 0) me from to from to refl tt (λ x m h. h) o.misses;
+          stop = let word = get_or t.words (stop_at job.workers) 0 in
+              stop_still (stop_at job.workers) t.views id v w word word [] me (at_below t.views id v me) (omega arith) (omega arith) refl refl (λ h. inl h) refl refl tt o.stop;
         },
         refl,
       ),
@@ -299,12 +329,15 @@ starts job room given laws words are =
       ready = opening_core.ready;
       reached = refl;
       events = λ i u w e lo hi. ap (λ (y : View). y.own.events) (only u (newcomer given P N room) i e).1;
+      misses = λ i u w e lo hi. subst (λ (y : View). AllByRecursion (IsTrueIn job w []) y.misses) (only u (newcomer given P N room) i e).1 tt;
       stop = let unset : get_or words (stop_at P) 0 ≡ 0 = ap (λ (ws : List ℕ). get_or ws (stop_at P) 0) are
           ∙ (get_or-set_other (replicate (P + 4 + N + N + N) 0) (node_at P 0) (stop_at P) 1 0 (λ e. omega arith) ∙ zeros (P + 4 + N + N + N) (stop_at P)) in record {
             known = inl unset;
             set = λ i u e some_stops. let same = ap (λ (y : View). y.own.stops) (only u (newcomer given P N room) i e).1 in absurd (omega (arith, same, some_stops));
             by = λ one. absurd (omega (arith, one, unset));
             found = λ i u e some_found. let same = ap (λ (y : View). y.own.stops_found) (only u (newcomer given P N room) i e).1 in absurd (omega (arith, same, some_found));
+            since = λ i u moment e is. let same = ap (λ (y : View). y.stopped_at) (only u (newcomer given P N room) i e).1 ∙ is in absurd (cc);
+            unset = λ i j u x e some_worker f. subst (λ (y : View). AllByRecursion (IsBeforeSet (stop_at P) x.stopped_at) y.misses) (only u (newcomer given P N room) i e).1 tt;
           };
     }
 

@@ -1,5 +1,6 @@
 -- After a step the table shows the state that its event makes, or after a stutter the same state.
 use Rattle.std.proofs.Common.{ℕ, zero, suc, ◌≡◌, ◌≢◌, ◌<◌, ◌≤◌, ◌+◌, Bool, true, false, ◌&&◌, not, ◌⊎◌, Option as Maybe, None, Some, List, [], ◌∷◌, ◌++◌, map, length, get_or, set, arith, refl, sym, ap, ◌∙◌, subst, inl, inr, ⊎_elim}
+use Rattle.std.specs.List.{AllByRecursion}
 use Rattle.std.proofs.lemmas.Bool.{cases_eq}
 use Rattle.std.proofs.lemmas.Bool.Decides.{nat_tests}
 use mathlib.Core.Option.{Option, some, some-injective, some-ne-none}
@@ -27,6 +28,7 @@ use Rattle.table_rule.specs.declared.slot.OpRecord.{OpRecord}
 use Rattle.seq_objects.specs.declared.call.Call.{Call}
 use Rattle.table_rule.specs.declared.view.HoldView.{HoldView}
 use Rattle.table_rule.specs.declared.view.LeftCall.{LeftCall}
+use Rattle.table_rule.specs.declared.view.Miss.{Miss}
 use Rattle.table_rule.specs.declared.view.View.{View}
 use Rattle.table_rule.specs.declared.slot.Slot.{Slot}
 use Rattle.table_rule.specs.Words.{WordsShow}
@@ -34,11 +36,11 @@ use Rattle.core_model.specs.declared.setting.Setting.{Setting}
 use Rattle.table_rule.specs.Steps.{ShowsOne, TryMakes, ArrivalMakes}
 use Rattle.table_rule.specs.Plays.{SeatState}
 use Rattle.table_rule.specs.Laws.{Laws}
-use Rattle.table_rule.specs.Shows.{TableState, HasSeat, IsRecordOf, RecordAt, SlotsShow, took_in, record_in, among, hold_of, HoldKnown, entry_of, present, SinceKnown, AgreesWithView, Shows, Shown, StopShows}
+use Rattle.table_rule.specs.Shows.{TableState, HasSeat, IsRecordOf, RecordAt, SlotsShow, took_in, record_in, among, hold_of, HoldKnown, entry_of, present, SinceKnown, AgreesWithView, Shows, Shown, MissesAgree, StopShows}
 use Rattle.table_rule.proofs.TableLemmas.Facts.{is_free, is_trapped, not_taken}
 use Rattle.core_model.specs.Lists.{ready_after}
 use Rattle.table_rule.specs.Words.{stop_at}
-use Rattle.table_rule.proofs.TableLemmas.Traces.{AddsEvent, reached_next, agree_next, agree_still, stop_still}
+use Rattle.table_rule.proofs.TableLemmas.Traces.{AddsEvent, IsNoted, all_of, true_longer, misses_kept, reached_next, agree_next, agree_still, stop_still}
 use Rattle.table_rule.proofs.TableLemmas.Through.{told_kept}
 use Rattle.core_model.proofs.InvariantLemmas.Puts.{put_at, put_other}
 
@@ -68,13 +70,14 @@ seat_stays views id k v w me from to from' to' seat x h = elim (cases_eq seat id
 -- a step of worker k
 pub moved : (job : CoreJob) (room : ℕ) (laws : Laws job) (t : TableState) (o : Shows job room t) (id k : ℕ) (v w : View) (words : List ℕ) (homes : List (Option Slot)) (event : Event) (new : State)
     → Happens job o.state k event new → get_elem? t.views id ≡ some v → v.own.worker ≡ k → v.to ≡ k + 1 → w.own.worker ≡ k → w.to ≡ k + 1
-    → AddsEvent v w event → get_or words (stop_at job.workers) 0 ≡ get_or t.words (stop_at job.workers) 0
+    → (more : List Miss) → AddsEvent v w event more → AllByRecursion (IsNoted job k o.trace (get_or t.words (stop_at job.workers) 0)) more
+    → get_or words (stop_at job.workers) 0 ≡ get_or t.words (stop_at job.workers) 0
     → WordsShow job.workers job.plan.count words new.node new.mark new.value new.status new.hold new.tick (length new.book)
     → SlotsShow job room homes new.task new.status new.hold new.book
     → (AgreesWithView job o.state (get_elem? t.homes k) (o.seat k) id v k → AgreesWithView job new (get_elem? homes k) (o.seat k) id w k)
     → ((i x : ℕ) (u : View) → x < job.workers → x ≢ k → AgreesWithView job o.state (get_elem? t.homes x) (o.seat x) i u x → AgreesWithView job new (get_elem? homes x) (o.seat x) i u x)
     → ShowsOne job room (Happens job o.state k event) record { words = words; homes = homes; views = set t.views id w }
-moved job room laws t o id k v w words homes event new happens me from to from' to' adds stop shown slots own others = (
+moved job room laws t o id k v w words homes event new happens me from to from' to' more adds noted stop shown slots own others = (
   record {
     state = new;
     seat = o.seat;
@@ -100,8 +103,12 @@ moved job room laws t o id k v w words homes event new happens me from to from' 
     reached = reached_next job o.trace o.ready o.state new k event o.reached happens;
     events = agree_next t.views id k v w o.trace event me from to from' to' adds.events
         (λ i x u at lo hi ne is. let m = mine_of job room t o id k v me from to in let was = o.views i u x at lo hi in ne (sym was.1.sits ∙ (ap o.seat is ∙ m.1.sits))) o.events;
-    stop = stop_still t.views id v w (get_or t.words (stop_at job.workers) 0) (get_or words (stop_at job.workers) 0) (at_below t.views id v me) me stop adds.stops
-        (λ some_found. inl (let a = adds.found in omega arith)) o.stop;
+    misses = misses_kept job t.views id k v w o.trace (o.trace ++ record { worker = k; event = event } ∷ []) more (get_or t.words (stop_at job.workers) 0) me from to from' to' adds.misses noted
+        (λ x m h. true_longer job x o.trace record { worker = k; event = event } m h) o.misses;
+    stop = let word = get_or t.words (stop_at job.workers) 0 in
+        stop_still (stop_at job.workers) t.views id v w word (get_or words (stop_at job.workers) 0) more me (at_below t.views id v me) (omega arith) (omega arith) stop adds.stops
+        (λ some_found. inl (let a = adds.found in omega arith)) adds.misses adds.stopped
+        (all_of (IsNoted job k o.trace word) (λ (m : Miss). m.word ≡ stop_at job.workers → (m.found ≡ 0) × (word ≡ 0)) (λ m h. h.1) more noted) o.stop;
   },
   happens,
 )
@@ -126,11 +133,11 @@ views_still job room t o id k v w me from to from' to' own i u x e lo hi = let m
 -- a step on a word that encodes no part of the state
 pub renewed : (job : CoreJob) (room : ℕ) (t : TableState) (o : Shows job room t) (id k : ℕ) (v w : View) (words : List ℕ)
     → get_elem? t.views id ≡ some v → v.own.worker ≡ k → v.to ≡ k + 1 → w.own.worker ≡ k → w.to ≡ k + 1
-    → w.own.events ≡ v.own.events → StopShows (get_or words (stop_at job.workers) 0) (set t.views id w)
+    → w.own.events ≡ v.own.events → MissesAgree job (set t.views id w) o.trace → StopShows (stop_at job.workers) (get_or words (stop_at job.workers) 0) (set t.views id w)
     → WordsShow job.workers job.plan.count words o.state.node o.state.mark o.state.value o.state.status o.state.hold o.state.tick (length o.state.book)
     → (AgreesWithView job o.state (get_elem? t.homes k) (o.seat k) id v k → AgreesWithView job o.state (get_elem? t.homes k) (o.seat k) id w k)
     → ShowsOne job room (λ (s : State). s ≡ o.state) record { words = words; homes = t.homes; views = set t.views id w }
-renewed job room t o id k v w words me from to from' to' events stop shown own = (
+renewed job room t o id k v w words me from to from' to' events misses stop shown own = (
   record {
     state = o.state;
     seat = o.seat;
@@ -143,20 +150,25 @@ renewed job room t o id k v w words me from to from' to' events stop shown own =
     ready = o.ready;
     reached = o.reached;
     events = agree_still t.views id k v w o.trace me from to from' to' events o.events;
+    misses = misses;
     stop = stop;
   },
   refl,
 )
 
--- a look or a refused try
+-- a look or a refused try, which may note a miss
 pub looked : (job : CoreJob) (room : ℕ) (t : TableState) (o : Shows job room t) (id k j : ℕ) (v w : View)
     → get_elem? t.views id ≡ some v → v.own.worker ≡ k → v.to ≡ k + 1 → w.own.worker ≡ k → w.to ≡ k + 1
     → w.own.events ≡ v.own.events → w.own.stops ≡ v.own.stops → (0 < w.own.stops_found → (0 < v.own.stops_found) ⊎ (get_or t.words (stop_at job.workers) 0 ≡ 1))
+    → (more : List Miss) → w.misses ≡ more ++ v.misses → w.stopped_at ≡ v.stopped_at → AllByRecursion (IsNoted job k o.trace (get_or t.words (stop_at job.workers) 0)) more
     → (AgreesWithView job o.state (get_elem? t.homes k) (o.seat k) id v k → AgreesWithView job o.state (get_elem? t.homes k) (o.seat k) id w k)
     → ShowsOne job room (λ (s : State). s ≡ o.state) record { words = set t.words j (get_or t.words j 0); homes = t.homes; views = set t.views id w }
-looked job room t o id k j v w me from to from' to' events stops found own =
+looked job room t o id k j v w me from to from' to' events stops found more are stopped noted own =
+    let word = get_or t.words (stop_at job.workers) 0 in
     renewed job room t o id k v w (set t.words j (get_or t.words j 0)) me from to from' to' events
-    (stop_still t.views id v w (get_or t.words (stop_at job.workers) 0) _ (at_below t.views id v me) me (ap (λ (ws : List ℕ). get_or ws (stop_at job.workers) 0) (set-get_or t.words j 0)) stops found o.stop)
+    (misses_kept job t.views id k v w o.trace o.trace more word me from to from' to' are noted (λ x m h. h) o.misses)
+    (stop_still (stop_at job.workers) t.views id v w word _ more me (at_below t.views id v me) (omega arith) (omega arith) (ap (λ (ws : List ℕ). get_or ws (stop_at job.workers) 0) (set-get_or t.words j 0)) stops found are stopped
+    (all_of (IsNoted job k o.trace word) (λ (m : Miss). m.word ≡ stop_at job.workers → (m.found ≡ 0) × (word ≡ 0)) (λ m h. h.1) more noted) o.stop)
     (subst (λ (ws : List ℕ). WordsShow job.workers job.plan.count ws o.state.node o.state.mark o.state.value o.state.status o.state.hold o.state.tick (length o.state.book)) (sym (set-get_or t.words j 0)) o.words)
     own
 
@@ -234,7 +246,7 @@ pub job_step : (job : CoreJob) (room : ℕ) (laws : Laws job) (t : TableState) (
     → let s = o.state in
     let new : State = record s { node = node; mark = mark; value = value; tick = tick; task = put s.task k y; call = call } in
     Happens job s k event new → get_elem? t.views id ≡ some v → v.own.worker ≡ k → v.to ≡ k + 1 → v.enrolled ≡ true → s.call k ≢ Out → call k ≢ Out
-    → SameBut v w → AddsEvent v w event → get_or words (stop_at job.workers) 0 ≡ get_or t.words (stop_at job.workers) 0 → w.own.task ≡ y → call k ≡ w.own.call → ((x : ℕ) → x ≢ k → call x ≡ s.call x) → (is_done (s.node 0) ≡ true → is_done (node 0) ≡ true)
+    → SameBut v w → AddsEvent v w event [] → get_or words (stop_at job.workers) 0 ≡ get_or t.words (stop_at job.workers) 0 → w.own.task ≡ y → call k ≡ w.own.call → ((x : ℕ) → x ≢ k → call x ≡ s.call x) → (is_done (s.node 0) ≡ true → is_done (node 0) ≡ true)
     → WordsShow job.workers job.plan.count words node mark value s.status s.hold tick (length s.book)
     → ShowsOne job room (Happens job o.state k event) record { words = words; homes = t.homes; views = set t.views id w }
 job_step job room laws t o id k v w words event node mark value tick call y happens me from to enrolled inside inside' same adds stop task_is call_is calls done shown =
@@ -242,7 +254,7 @@ job_step job room laws t o id k v w words event node mark value tick call y happ
     let new : State = record s { node = node; mark = mark; value = value; tick = tick; task = put s.task k y; call = call } in
     let free = is_free job s k o.parts inside in
     let stay : (u : ℕ) → u ≢ k → put s.task k y u ≡ s.task u = λ u ne. put_other s.task k u y ne in
-    moved job room laws t o id k v w words t.homes event new happens me from to (same.from ∙ from) (same.to ∙ to) adds stop shown
+    moved job room laws t o id k v w words t.homes event new happens me from to (same.from ∙ from) (same.to ∙ to) [] adds tt stop shown
     record {
       wide = o.slots.wide;
       records = λ u below. elim (cases_eq u k) [

@@ -15,12 +15,13 @@ use Rattle.batch_history.specs.Serving.{call_in, calls_in}
 use Rattle.launch_batch.proofs.ListLemmas.Same.{length_same}
 use Rattle.table_rule.specs.declared.slot.OpRecord.{OpRecord}
 use Rattle.table_rule.specs.declared.view.HoldView.{HoldView}
+use Rattle.table_rule.specs.declared.view.Miss.{Miss}
 use Rattle.table_rule.specs.declared.view.View.{View}
 use Rattle.table_rule.specs.Batches.{IsPublishDue, IsReleaseDue}
 use Rattle.table_rule.specs.Passes.{call_by, in_hold, after_take, after_pass, after_publish, after_answer, taking, skipping, publishing, answering}
 use Rattle.table_rule.specs.Plays.{IsNewCall}
 use Rattle.table_rule.specs.Shows.{record_in, among}
-use Rattle.table_rule.specs.Views.{with_step, with_found}
+use Rattle.table_rule.specs.Views.{with_step, with_miss}
 use Rattle.table_rule.proofs.ListLemmas.CallCounts.{room_few}
 use Rattle.core_table.specs.declared.table.CoreTable.{CoreTable}
 use Rattle.core_table.specs.declared.table.Pass.{Pass}
@@ -84,8 +85,8 @@ module _ (t : CoreTable) (n : ℕ) (before : List (List Entry)) (calls : List Ca
         }
 
     -- a look that takes none
-    pub flag_passed : (seen : ℕ) → view q ≡ with_found seen (skipping n seen) (view p) → HasFlag t before (n + 1) calls q
-    flag_passed seen now = record {
+    pub flag_passed : (miss : Miss) (seen : ℕ) → view q ≡ with_miss miss (skipping n seen) (view p) → HasFlag t before (n + 1) calls q
+    flag_passed miss seen now = record {
       own = own;
       h = after_pass seen f.h;
       hold = ap (λ (v : View). v.own.hold) now ∙ ap (in_hold (after_pass seen)) f.hold;

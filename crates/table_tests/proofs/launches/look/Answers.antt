@@ -12,5 +12,5 @@ returns-in_ok-push-in-Ok c =
 pub returns-in-Err : goal.returns-in-Err
 returns-in-Err c = record {
   flag = flag_passed c.args.table.now c.args.u c.args.shop.now c.args.calls.now.items c.args.pass.now c.requires.flag c.take.new.pass c.in-Err.ensures.pass
-      c.in-Err.seen c.in-Err.ensures.passed.1;
+      c.in-Err.ensures.passed.0 c.in-Err.seen c.in-Err.ensures.passed.2;
 }

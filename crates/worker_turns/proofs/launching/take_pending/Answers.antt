@@ -36,5 +36,5 @@ returns-in-Err-clause-fit c =
     let hold = (pass_view c.args.pass.now).hold in
     let next = c.requires.next in
     let pass = after_pass c.in-Err.status in
-    subst (Holds AreFit) (sym (ap (λ (p : PassView). p.hold) (own_of _ _ c.in-Err.ensures.passed.1) ∙ ap (in_hold pass) next.1))
+    subst (Holds AreFit) (sym (ap (λ (p : PassView). p.hold) (own_of _ _ c.in-Err.ensures.passed.2) ∙ ap (in_hold pass) next.1))
     (fit_passed next.0 c.in-Err.status (held_at AreFit hold next.0 c.requires.fit next.1))

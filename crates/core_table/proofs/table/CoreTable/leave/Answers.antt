@@ -19,7 +19,7 @@ compare_exchange-seen-requires c =
     let laws = c.laws_hold.ensures self.setting refl in (
       c.requires.pass.0,
       omega (arith, self.sized.0, c.requires.pass.1),
-      rw self.key.0 (λ a b d e f. let x = (leaves job (room_of self.setting) laws _ _ v pass.seat.me.1 pass.worker pass.number.0 pass.number.1 c.requires.pass.4 (c.requires.trapped) c.requires.idle c.requires.pass.9) a b d e f in (x.0, x.1, x.2, x.3.0, x.4)),
+      rw self.key.0 (λ a b d e f. let x = (leaves job (room_of self.setting) laws _ _ v pass.seat.me.1 pass.worker pass.number.0 pass.number.1 c.requires.pass.4 (c.requires.trapped) c.requires.idle c.requires.pass.9 c.requires.pass.6) a b d e f in (x.0, x.1, x.2, x.3.0, x.4)),
     )
 
 pub exchange-requires : goal.exchange-requires

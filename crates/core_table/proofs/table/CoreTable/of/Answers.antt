@@ -11,7 +11,7 @@ use Rattle.core_table.specs.Passes.{IsSeatOf}
 use Rattle.table_rule.specs.Views.{rest_from}
 use Rattle.table_rule.proofs.TableLemmas.Moved.{few_nodes}
 use Rattle.table_rule.proofs.StepLemmas.Starts.{starts, cuts_at, enrols_at}
-use Rattle.core_table.proofs.PassLemmas.NewPass.{each_push, new_pass}
+use Rattle.core_table.proofs.PassLemmas.NewPass.{each_push, new_pass, unset_seat}
 use Rattle.core_table.proofs.table.CoreTable.of.Goals as goal
 
 -- there is an act for each leaf
@@ -83,3 +83,9 @@ loop-worker-preserved c =
           subst (λ (w : ℕ). (k ≡ w) × IsSeatOf setting table k c.load.new.seat c.in_ok-owed.owed.items false × (c.load.new.seat.me.0 ≡ enrolling (pass_of (rest_from w setting)))) (sym at)
           (refl, subst (λ (l : List ℕ). IsSeatOf setting table k c.load.new.seat l false) (sym c.in_ok-owed.ensures.items) (new_pass setting table k c.load.new.seat c.loop-worker-test.true id me), ap (λ (m : SeatState). m.0) me)));
     }
+
+pub returns-clause-unset : goal.returns-clause-unset
+returns-clause-unset c t shown seated =
+    let i = c.loop-worker.invariant in
+    c.the_stop_word_is_set_by_a_pass.ensures.unset c.args.setting t shown
+    (λ w low. unset_seat c.args.setting c.in-Ok.made.0.shared.table_id t c.loop-worker.passes.items w (omega (arith, i.long, c.loop-worker-test.false, low)) i.each seated)

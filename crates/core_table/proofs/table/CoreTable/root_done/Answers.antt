@@ -13,12 +13,12 @@ load-requires c =
     let laws = c.laws_hold.ensures self.setting refl in (
       c.requires.pass.0,
       omega (arith, self.sized.0, c.node-at.ensures, c.layout.ensures.workers, self.few.3),
-      rw (self.key.0, c.node-at.ensures, c.layout.ensures.workers) (λ a b d e f. let x = (looks_at_root job (room_of self.setting) laws _ _ v pass.seat.me.1 pass.worker pass.number.0 pass.number.1 _ c.requires.pass.2 (omega arith) (omega (arith, self.few.3, self.key.1))) a b d e f in (x.0, x.1, x.2, x.3.0, x.4)),
+      rw (self.key.0, c.node-at.ensures, c.layout.ensures.workers) (λ a b d e f. let x = (looks_at_root job (room_of self.setting) laws _ _ v pass.seat.me.1 pass.worker pass.number.0 pass.number.1 _ c.requires.pass.2 (omega arith) (omega (arith, self.few.3, self.key.1)) c.requires.pass.9 c.requires.pass.6) a b d e f in (x.0, x.1, x.2, x.3.0, x.4)),
     )
 
 pub returns-clause-pass : goal.returns-clause-pass
 returns-clause-pass c =
     let old = c.args.pass.now.seat in elim (cases_eq (c.load.result % 4) 3) [
       | inl e ↦ pass_kept c.args.self.now.setting _ c.args.pass.now.worker old c.load.new.seat (seeing_done old.me.0) c.load.ensures.0 (c.load.ensures.2.0 e) refl refl refl refl refl refl refl refl c.requires.pass
-      | inr ne ↦ pass_kept c.args.self.now.setting _ c.args.pass.now.worker old c.load.new.seat (seeing_undone c.load.result old.me.0) c.load.ensures.0 (c.load.ensures.2.1 ne) refl refl refl refl refl refl refl refl c.requires.pass
+      | inr ne ↦ let t = c.load.ensures.2.1 ne in pass_kept c.args.self.now.setting _ c.args.pass.now.worker old c.load.new.seat (seeing_undone t.0 old.me.0) c.load.ensures.0 t.3 refl refl refl refl refl refl refl refl c.requires.pass
     ]

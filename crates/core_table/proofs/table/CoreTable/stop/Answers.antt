@@ -1,7 +1,6 @@
 use Rattle.std.proofs.Common.{arith, refl}
 use Rattle.table_rule.specs.Shows.{room_of, job_of}
-use Rattle.table_rule.specs.Passes.{stopping}
-use Rattle.table_rule.specs.Views.{with_step}
+use Rattle.table_rule.specs.Views.{with_stop}
 use Rattle.table_rule.proofs.StepLemmas.LookSteps.{stops}
 use Rattle.core_table.proofs.PassLemmas.PassKept.{pass_kept}
 use Rattle.core_table.proofs.table.CoreTable.stop.Goals as goal
@@ -12,10 +11,10 @@ store-requires c =
     let laws = c.laws_hold.ensures self.setting refl in (
       c.requires.pass.0,
       omega (arith, self.sized.0, c.stop-at.ensures, c.layout.ensures.workers),
-      rw (self.key.0, c.stop-at.ensures, c.layout.ensures.workers) (λ a b d e f. let x = (stops job (room_of self.setting) laws _ _ v pass.seat.me.1 pass.worker pass.number.0 pass.number.1 c.requires.pass.2) a b d e f in (x.0, x.1, x.2, x.3.0, x.4)),
+      rw (self.key.0, c.stop-at.ensures, c.layout.ensures.workers) (λ a b d e f. let x = (stops job (room_of self.setting) laws _ _ v pass.seat.me.1 pass.worker pass.number.0 pass.number.1 c.requires.pass.2 c.requires.pass.9 c.requires.pass.6) a b d e f in (x.0, x.1, x.2, x.3.0, x.4)),
     )
 
 pub returns-clause-pass : goal.returns-clause-pass
 returns-clause-pass c =
-    let old = c.args.pass.now.seat in
-    pass_kept c.args.self.now.setting _ c.args.pass.now.worker old c.store.new.seat (with_step stopping old.me.0) c.store.ensures.0 c.store.ensures.2.0 refl refl refl refl refl refl refl refl c.requires.pass
+    let old = c.args.pass.now.seat in let t = c.store.ensures.2.0 in
+    pass_kept c.args.self.now.setting _ c.args.pass.now.worker old c.store.new.seat (with_stop t.0 old.me.0) c.store.ensures.0 t.2 refl refl refl refl refl refl refl refl c.requires.pass

@@ -8,7 +8,7 @@ use Rattle.table_rule.specs.TracksHold.{Owes}
 use Rattle.core_table.proofs.ListLemmas.Owed.{remembers_hold, owes_passed, owes_taken}
 use Rattle.std.proofs.lemmas.Option.{same_Some}
 use Rattle.table_rule.specs.Passes.{call_by, in_hold, after_take, after_pass, taking, skipping}
-use Rattle.table_rule.specs.Views.{with_step, with_found}
+use Rattle.table_rule.specs.Views.{with_step, with_miss}
 use Rattle.table_rule.proofs.StepLemmas.GateSteps.{looks}
 use Rattle.core_model.specs.State.{CoreJob}
 use Rattle.core_model.specs.Operations.{op_of}
@@ -22,7 +22,7 @@ compare_exchange-seen-requires c =
     let due = c.requires.due in (
       c.requires.pass.0,
       omega (arith, self.sized.0, due.2.1),
-      rw self.key.0 (λ a b d e f. let x = (looks job (room_of self.setting) laws _ _ v pass.seat.me.1 pass.worker pass.number.0 pass.number.1 due.0 c.args.u c.requires.pass.6 c.requires.pass.9 due.1 due.2.0 due.2.1) a b d e f in (x.0, x.1, x.2, x.3.0, x.4)),
+      rw self.key.0 (λ a b d e f. let x = (looks job (room_of self.setting) laws _ _ v pass.seat.me.1 pass.worker pass.number.0 pass.number.1 due.0 c.args.u c.requires.pass.6 c.requires.pass.6 c.requires.pass.9 due.1 due.2.0 due.2.1) a b d e f in (x.0, x.1, x.2, x.3.0, x.4)),
     )
 
 pub exchange-slot-requires : goal.exchange-slot-requires
@@ -33,10 +33,11 @@ exchange-slot-requires c =
 pub returns-then-seen-ne1-clause-pass : goal.returns-then-seen-ne1-clause-pass
 returns-then-seen-ne1-clause-pass c =
     let old = c.args.pass.now.seat in let e = c.compare_exchange-seen.ensures.2 in
-    let w = with_found c.compare_exchange-seen.result (skipping c.args.u c.compare_exchange-seen.result) old.me.0 in
+    let t = e.4 c.if-seen-ne1.true in
+    let w = with_miss t.0 (skipping c.args.u c.compare_exchange-seen.result) old.me.0 in
     let out : old.me.0.own.call ≡ Out = held_out c.args.pass.now.worker old.me e.0 c.requires.pass.7 e.1 in
-    pass_made c.args.self.now.setting _ c.args.pass.now.worker old c.compare_exchange-seen.new.seat w old.me.1 c.compare_exchange-seen.ensures.0 (e.4 c.if-seen-ne1.true) refl refl refl refl refl refl
-    (carries_passed c.args.pass.now.worker c.args.u old.me.0 e.0 c.compare_exchange-seen.result old.me.1 out e.1 c.requires.pass.7)
+    pass_made c.args.self.now.setting _ c.args.pass.now.worker old c.compare_exchange-seen.new.seat w old.me.1 c.compare_exchange-seen.ensures.0 t.3 refl refl refl refl refl refl
+    (carries_passed c.args.pass.now.worker c.args.u old.me.0 t.0 e.0 c.compare_exchange-seen.result old.me.1 out e.1 c.requires.pass.7)
     (let m = c.requires.pass.8.holds e.0 e.1 in remembers_hold w _ _ (after_pass c.compare_exchange-seen.result e.0) (ap (in_hold (after_pass c.compare_exchange-seen.result)) e.1) m.0 m.1 (owes_passed e.0 c.compare_exchange-seen.result m.2))
     (looks_after c.args.self.now.setting.workers (after_pass c.compare_exchange-seen.result) old.me.0.own.hold e.0 e.1 (let due = c.requires.due in let at = ap (λ (h : HoldView). h.looks) (same_Some due.0 e.0 (sym due.1 ∙ e.1)) in omega (arith, at, due.2.0, due.2.1))) c.requires.pass
 

@@ -1,11 +1,14 @@
-use Rattle.std.proofs.Common.{false, ◌≡◌, ℕ, ◌+◌, [], ◌∷◌, ap, ◌∙◌, arith, refl}
+use Rattle.std.proofs.Common.{false, ◌≡◌, ℕ, ◌+◌, [], ◌∷◌, sym, ap, ◌∙◌, arith, refl}
 use Rattle.core_model.specs.declared.status.CallState.TheVariants.{Out}
 use Rattle.table_rule.specs.declared.slot.Slot.TheVariants as Slots
 use Rattle.table_rule.specs.Shows.{reserved, room_of, job_of}
 use Rattle.core_table.proofs.PassLemmas.PassKept.{pass_kept, pass_made, first, swapped, turned_to, carries_won}
+use Rattle.core_table.proofs.PassLemmas.Refused.{miss_told}
 use Rattle.core_table.proofs.ListLemmas.Owed.{remembers_hold, owes_new}
 use Rattle.table_rule.specs.Passes.{new_hold, winning, refusing_win}
-use Rattle.table_rule.specs.Views.{with_step, with_found}
+use Rattle.table_rule.specs.Plays.{SeatState}
+use Rattle.table_rule.specs.Words.{flag_at}
+use Rattle.table_rule.specs.Views.{with_step, with_miss}
 use Rattle.table_rule.proofs.StepLemmas.GateSteps.{wins}
 use Rattle.core_table.proofs.table.CoreTable.win.Goals as goal
 
@@ -15,13 +18,19 @@ compare_exchange-requires c =
     let laws = c.laws_hold.ensures self.setting refl in (
       c.requires.pass.0,
       omega (arith, self.sized.0, c.flag-at.ensures, c.layout.ensures.workers),
-      rw (self.key.0, c.flag-at.ensures, c.layout.ensures.workers) (λ a b d e f. let x = (wins job (room_of self.setting) laws _ _ v pass.seat.me.1 pass.worker pass.number.0 pass.number.1 c.requires.pass.2 c.requires.trapped c.requires.pass.6) a b d e f in (x.0, x.1, x.2, x.3.0, x.4)),
+      rw (self.key.0, c.flag-at.ensures, c.layout.ensures.workers) (λ a b d e f. let x = (wins job (room_of self.setting) laws _ _ v pass.seat.me.1 pass.worker pass.number.0 pass.number.1 c.requires.pass.2 c.requires.trapped c.requires.pass.6 c.requires.pass.9) a b d e f in (x.0, x.1, x.2, x.3.0, x.4)),
     )
 
 pub returns-then-compare_exchange-ne0-clause-pass : goal.returns-then-compare_exchange-ne0-clause-pass
 returns-then-compare_exchange-ne0-clause-pass c =
     let old = c.args.pass.now.seat in
-    pass_kept c.args.self.now.setting _ c.args.pass.now.worker old c.compare_exchange.new.seat (with_found c.compare_exchange.result refusing_win old.me.0) c.compare_exchange.ensures.0 (c.compare_exchange.ensures.2.1 c.if-compare_exchange-ne0.true) refl refl refl refl refl refl refl refl c.requires.pass
+    let t = c.compare_exchange.ensures.2.1 c.if-compare_exchange-ne0.true in
+    pass_kept c.args.self.now.setting _ c.args.pass.now.worker old c.compare_exchange.new.seat (with_miss t.0 refusing_win old.me.0) c.compare_exchange.ensures.0 t.3 refl refl refl refl refl refl refl refl c.requires.pass
+
+pub returns-then-compare_exchange-ne0-clause-lost : goal.returns-then-compare_exchange-ne0-clause-lost
+returns-then-compare_exchange-ne0-clause-lost c =
+    let ne = c.if-compare_exchange-ne0.true in let t = c.compare_exchange.ensures.2.1 ne in
+    (t.0, ((λ e. ne (sym t.2 ∙ e)), miss_told c.args.self.now c.args.pass.now _ _ t.0 c.requires.pass (c.flag-at.ensures ∙ ap flag_at c.layout.ensures.workers) t.1), ap (λ (m : SeatState). m.0) t.3)
 
 pub exchange-slot-requires : goal.exchange-slot-requires
 exchange-slot-requires c =

@@ -1,0 +1,21 @@
+-- What a call of a pass tells of its moment, as its clauses say it.
+use Rattle.std.proofs.Common.{ℕ, ◌≡◌, subst}
+use Rattle.core_model.specs.State.{CoreJob}
+use Rattle.table_rule.specs.declared.view.Miss.{Miss}
+use Rattle.table_rule.specs.Shows.{room_of}
+use Rattle.table_rule.specs.Moments.{IsMomentOf, IsMissAt}
+use Rattle.table_rule.specs.Tasks.{job_seen}
+use Rattle.core_table.specs.declared.table.CoreTable.{CoreTable}
+use Rattle.core_table.specs.declared.table.Pass.{Pass}
+use Rattle.core_table.specs.Passes.{IsPassOf, IsMomentIn, IsMissOf}
+
+pub moment_told : (table : CoreTable) (pass : Pass) (moment : ℕ) → IsPassOf table pass → IsMomentOf (job_seen pass.seat.me.0) pass.seat.me.0.room pass.seat.me.0 moment → IsMomentIn table pass moment
+moment_told table pass moment p h =
+    subst (λ (job : CoreJob). IsMomentOf job (room_of table.setting) pass.seat.me.0 moment) p.9
+    (subst (λ (room : ℕ). IsMomentOf (job_seen pass.seat.me.0) room pass.seat.me.0 moment) p.6 h)
+
+pub miss_told : (table : CoreTable) (pass : Pass) (place at : ℕ) (miss : Miss) → IsPassOf table pass → place ≡ at → IsMissAt (job_seen pass.seat.me.0) pass.seat.me.0.room pass.seat.me.0 place miss → IsMissOf table pass at miss
+miss_told table pass place at miss p is h =
+    subst (λ (place : ℕ). IsMissOf table pass place miss) is
+    (subst (λ (job : CoreJob). IsMissAt job (room_of table.setting) pass.seat.me.0 place miss) p.9
+    (subst (λ (room : ℕ). IsMissAt (job_seen pass.seat.me.0) room pass.seat.me.0 place miss) p.6 h))

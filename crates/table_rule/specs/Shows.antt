@@ -211,11 +211,16 @@ abbrev pub IsTrueIn : CoreJob → ℕ → List Step → Miss → Type 0
 IsTrueIn job w trace miss =
     (front : List Step) × (back : List Step) × (trace ≡ front ++ back) × IsTrueAfter job w front miss
 
--- the views agree with a trace: each miss of a view was true at its moment, for each worker in the view's range
+-- the misses of a view stand in the order of their moments, the newest first
+abbrev pub AreInOrder : List Miss → Type 0
+AreInOrder [] = Unit {0}
+AreInOrder (miss ∷ earlier) = AllByRecursion (λ (m : Miss). m.moment ≤ miss.moment) earlier × AreInOrder earlier
+
+-- The views agree with a trace: for each worker in a view's range, each miss of the view was true at its moment.
 abbrev pub MissesAgree : CoreJob → List View → List Step → Type 0
 MissesAgree job views trace =
     (id : ℕ) (v : View) (w : ℕ) → get_elem? views id ≡ some v → v.own.worker ≤ w → w < v.to
-    → AllByRecursion (IsTrueIn job w trace) v.misses
+    → AllByRecursion (IsTrueIn job w trace) v.misses × AreInOrder v.misses
 
 -- a miss at the stop word found 0, and not after this set of the word, if there is one
 abbrev pub IsNotAfter : ℕ → Maybe ℕ → Type 0
@@ -233,7 +238,7 @@ pub record StopShows (stop word : ℕ) (views : List View) : Type 0 where
   pub by : word ≡ 1 → (id : ℕ) × (v : View) × (get_elem? views id ≡ some v) × (0 < v.own.stops) × (v.own.worker < v.to)
   pub found : (id : ℕ) (v : View) → get_elem? views id ≡ some v → 0 < v.own.stops_found → word ≡ 1
   pub since : (id : ℕ) (v : View) (moment : ℕ) → get_elem? views id ≡ some v → v.stopped_at ≡ Some moment → word ≡ 1
-  pub unset : (id by : ℕ) (v u : View) → get_elem? views id ≡ some v → v.own.worker < v.to → get_elem? views by ≡ some u
+  pub unset : (id other : ℕ) (v u : View) → get_elem? views id ≡ some v → v.own.worker < v.to → get_elem? views other ≡ some u
       → AllByRecursion (IsBeforeSet stop u.stopped_at) v.misses
 
 -- The table shows a state that has the eight parts of the invariant. Each worker is in the range of exactly one seat;

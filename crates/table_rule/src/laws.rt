@@ -9,7 +9,7 @@ ghost use Rattle.sp_order.specs.Precedence.{leaves};
 ghost use Rattle.core_model.specs.declared.setting.Setting.{Setting};
 ghost use Rattle.table_rule.specs.declared.view.View.{View};
 ghost use Rattle.table_rule.specs.Laws.{IsSound, Laws};
-ghost use Rattle.table_rule.specs.Shows.{TableState, Shown, job_of, IsPrefix, IsTrueIn, IsBeforeSet};
+ghost use Rattle.table_rule.specs.Shows.{TableState, Shown, job_of, IsPrefix, AreInOrder, IsTrueIn, IsBeforeSet};
 ghost use Rattle.table_rule.specs.OneState.{AreOne};
 ghost use Rattle.table_rule.specs.Words.{stop_at};
 ghost use Rattle.core_model.specs.Entries.{StandsAt};
@@ -104,12 +104,13 @@ pub fn tables_without_events_show_the_opening_state()
 {}
 
 /// Each miss that a pass has noted was true at its moment: a front of the trace, as long as the moment says and with as
-/// many events of the pass as it says, reaches a state in which the word has the number found.
+/// many events of the pass as it says, reaches a state in which the word has the number found. The moments of a pass do
+/// not fall.
 pub fn misses_are_true_at_their_moments()
     ensures { (key : Setting) (t : TableState) (shown : Shown key t) (id : ℕ) (v : View)
         → get_elem? t.views id ≡ some v
         → v.own.worker < v.to
-        → AllByRecursion (IsTrueIn (job_of key) v.own.worker shown.trace) v.misses }
+        → AllByRecursion (IsTrueIn (job_of key) v.own.worker shown.trace) v.misses × AreInOrder v.misses }
 {}
 
 /// The stop word is 0 until a pass sets it, and 1 from then on. A look finds it set only if some pass has set it, and

@@ -24,7 +24,7 @@ use Rattle.core_model.specs.Runs.{Step}
 use Rattle.table_rule.specs.Words.{stop_at}
 use Rattle.std.specs.List.{AllByRecursion}
 use Rattle.table_rule.proofs.TableLemmas.Traces.{agree_still, misses_kept, stop_still, SameNotes, stop_cut}
-use Rattle.table_rule.specs.Shows.{reserved, SlotHome, RecordAt, AgreesWithView, HasSeat, EventsAgree, IsTrueIn, MissesAgree, IsBeforeSet, StopShows, Shows}
+use Rattle.table_rule.specs.Shows.{reserved, SlotHome, RecordAt, AgreesWithView, HasSeat, EventsAgree, IsTrueIn, AreInOrder, MissesAgree, IsBeforeSet, StopShows, Shows}
 use Rattle.table_rule.specs.Views.{newcomer}
 use Rattle.table_rule.specs.Plays.{enrolled}
 use Rattle.table_rule.specs.Steps.{ShowsOne, StepRefines, SplitStutters, Stutters}
@@ -98,13 +98,13 @@ misses_cut job views id v steps me some_left old i u x e lo hi = ⊎_elim
     (λ r.
     let lo' : v.own.worker + 1 ≤ x = subst (λ (y : View). y.own.worker ≤ x) (sym r.1) lo in
     let hi' : x < v.to = subst (λ (y : View). x < y.to) (sym r.1) hi in
-    subst (λ (y : View). AllByRecursion (IsTrueIn job x steps) y.misses) r.1 (old id v x me (omega arith) hi'))
+    subst (λ (y : View). AllByRecursion (IsTrueIn job x steps) y.misses × AreInOrder y.misses) r.1 (old id v x me (omega arith) hi'))
     (λ r. old i u x r.1 lo hi)
     (at_set views id i (rest_of v) u q))
     (λ q.
     let lo' : v.own.worker ≤ x = subst (λ (y : View). y.own.worker ≤ x) (sym q.0) lo in
     let hi' : x < v.own.worker + 1 = subst (λ (y : View). x < y.to) (sym q.0) hi in
-    subst (λ (y : View). AllByRecursion (IsTrueIn job x steps) y.misses) q.0 (old id v x me lo' (omega arith)))
+    subst (λ (y : View). AllByRecursion (IsTrueIn job x steps) y.misses × AreInOrder y.misses) q.0 (old id v x me lo' (omega arith)))
     (at_snoc_at (set views id (rest_of v)) (pass_of v) u i e)
 
 -- and the notes of the stop word
@@ -329,7 +329,7 @@ starts job room given laws words are =
       ready = opening_core.ready;
       reached = refl;
       events = λ i u w e lo hi. ap (λ (y : View). y.own.events) (only u (newcomer given P N room) i e).1;
-      misses = λ i u w e lo hi. subst (λ (y : View). AllByRecursion (IsTrueIn job w []) y.misses) (only u (newcomer given P N room) i e).1 tt;
+      misses = λ i u w e lo hi. subst (λ (y : View). AllByRecursion (IsTrueIn job w []) y.misses × AreInOrder y.misses) (only u (newcomer given P N room) i e).1 (tt, tt);
       stop = let unset : get_or words (stop_at P) 0 ≡ 0 = ap (λ (ws : List ℕ). get_or ws (stop_at P) 0) are
           ∙ (get_or-set_other (replicate (P + 4 + N + N + N) 0) (node_at P 0) (stop_at P) 1 0 (λ e. omega arith) ∙ zeros (P + 4 + N + N + N) (stop_at P)) in record {
             known = inl unset;

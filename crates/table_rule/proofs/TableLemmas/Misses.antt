@@ -20,7 +20,7 @@ miss_of job room t o v place = record { word = place; found = get_or t.words pla
 -- no miss of a view is after the end of the trace
 pub all_before : (job : CoreJob) (room : ℕ) (t : TableState) (o : Shows job room t) (id k : ℕ) (v : View) → get_elem? t.views id ≡ some v → v.own.worker ≤ k → k + 1 ≤ v.to
     → AllByRecursion (λ (m : Miss). m.moment ≤ length o.trace) v.misses
-all_before job room t o id k v me low high = all_of (IsTrueIn job k o.trace) (λ (m : Miss). m.moment ≤ length o.trace) (λ m h. within_trace job k o.trace m h) v.misses (o.misses id v k me low (omega arith))
+all_before job room t o id k v me low high = all_of (IsTrueIn job k o.trace) (λ (m : Miss). m.moment ≤ length o.trace) (λ m h. within_trace job k o.trace m h) v.misses (o.misses id v k me low (omega arith)).0
 
 module _ (job : CoreJob) (room : ℕ) (t : TableState) (o : Shows job room t) (id k : ℕ) (v : View) (me : get_elem? t.views id ≡ some v) (from : v.own.worker ≡ k) (to : v.to ≡ k + 1) where
   now_true : (place : ℕ) → IsTrueIn job k o.trace (miss_of job room t o v place)
@@ -29,10 +29,10 @@ module _ (job : CoreJob) (room : ℕ) (t : TableState) (o : Shows job room t) (i
 
   -- a miss at any other word than the stop word, and one at the stop word
   pub noted_at : (place : ℕ) → place ≢ stop_at job.workers → AllByRecursion (IsNoted job k o.trace (get_or t.words (stop_at job.workers) 0)) (miss_of job room t o v place ∷ [])
-  noted_at place ne = ((now_true place, λ is. absurd (ne is)), tt)
+  noted_at place ne = (record { true = now_true place; last = refl; stop = λ is. absurd (ne is) }, tt)
 
   pub noted_at_stop : get_or t.words (stop_at job.workers) 0 ≡ 0 → AllByRecursion (IsNoted job k o.trace (get_or t.words (stop_at job.workers) 0)) (miss_of job room t o v (stop_at job.workers) ∷ [])
-  noted_at_stop zero = ((now_true (stop_at job.workers), λ is. (zero, zero)), tt)
+  noted_at_stop zero = (record { true = now_true (stop_at job.workers); last = refl; stop = λ is. (zero, zero) }, tt)
 
   now : IsMomentOf job room v (length o.trace)
   now = record { table = t; shown = o; seat = id; seated = me; long = refl; own = o.events id v v.own.worker me (omega arith) (omega arith); later = all_before job room t o id k v me (omega arith) (omega arith) }

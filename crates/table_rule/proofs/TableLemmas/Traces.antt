@@ -15,7 +15,7 @@ use Rattle.core_model.specs.State.{CoreJob, CoreState, State, opening_core}
 use Rattle.table_rule.specs.declared.view.Miss.{Miss}
 use Rattle.table_rule.specs.declared.view.View.{View}
 use Rattle.table_rule.specs.Words.{stop_at}
-use Rattle.table_rule.specs.Shows.{event_if, events_by, EventsAgree, HasWord, IsTrueIn, MissesAgree, IsNotAfter, IsBeforeSet, StopShows}
+use Rattle.table_rule.specs.Shows.{event_if, events_by, EventsAgree, HasWord, IsTrueIn, AreInOrder, MissesAgree, IsNotAfter, IsBeforeSet, StopShows}
 use Rattle.table_rule.specs.Views.{first_set}
 
 -- the trace with one more step
@@ -98,25 +98,37 @@ pub true_now : (job : CoreJob) (w : ℕ) (trace : List Step) (core : CoreState) 
 true_now job w trace core m reached moment events word = (trace, [], sym (append-nil trace), record { core = core; reached = reached; moment = moment; events = events; word = word })
 
 -- a miss that worker k's pass notes at the end of the trace, where the stop word is `word`
-abbrev pub IsNoted : CoreJob → ℕ → List Step → ℕ → Miss → Type 0
-IsNoted job k trace word m = IsTrueIn job k trace m × (m.word ≡ stop_at job.workers → (m.found ≡ 0) × (word ≡ 0))
+pub record IsNoted (job : CoreJob) (k : ℕ) (trace : List Step) (word : ℕ) (m : Miss) : Type 0 where
+  pub true : IsTrueIn job k trace m
+  pub last : m.moment ≡ length trace
+  pub stop : m.word ≡ stop_at job.workers → (m.found ≡ 0) × (word ≡ 0)
+
+in_order : (job : CoreJob) (k : ℕ) (trace : List Step) (word : ℕ) (more l : List Miss) → AllByRecursion (IsNoted job k trace word) more → AllByRecursion (IsTrueIn job k trace) l → AreInOrder l → AreInOrder (more ++ l)
+in_order job k trace word [] l noted trues order = order
+in_order job k trace word (m ∷ more) l noted trues order =
+    let last = noted.0.last in (
+      all_of (IsTrueIn job k trace) (λ (e : Miss). e.moment ≤ m.moment) (λ e h. let low = within_trace job k trace e h in omega (arith, low, last)) (more ++ l)
+          (both_lists (IsTrueIn job k trace) more l (all_of (IsNoted job k trace word) (IsTrueIn job k trace) (λ m h. h.true) more noted.1) trues),
+      in_order job k trace word more l noted.1 trues order,
+    )
 
 -- the misses after a step of worker k that has noted `more`
 pub misses_kept : (job : CoreJob) (views : List View) (id k : ℕ) (v w : View) (trace new : List Step) (more : List Miss) (word : ℕ) → get_elem? views id ≡ some v → v.own.worker ≡ k → v.to ≡ k + 1 → w.own.worker ≡ k → w.to ≡ k + 1
     → w.misses ≡ more ++ v.misses → AllByRecursion (IsNoted job k trace word) more → ((x : ℕ) (m : Miss) → IsTrueIn job x trace m → IsTrueIn job x new m)
     → MissesAgree job views trace → MissesAgree job (set views id w) new
 misses_kept job views id k v w trace new more word me from to from' to' are noted longer old i u x e lo hi =
-    let trues = all_of (IsNoted job k trace word) (IsTrueIn job k trace) (λ m h. h.0) more noted in
-    let was : AllByRecursion (IsTrueIn job x trace) u.misses = ⊎_elim
+    let trues = all_of (IsNoted job k trace word) (IsTrueIn job k trace) (λ m h. h.true) more noted in
+    let was : AllByRecursion (IsTrueIn job x trace) u.misses × AreInOrder u.misses = ⊎_elim
     (λ q.
     let lo' : w.own.worker ≤ x = subst (λ (y : View). y.own.worker ≤ x) (sym q.1) lo in
     let hi' : x < w.to = subst (λ (y : View). x < y.to) (sym q.1) hi in
     let at : x ≡ k = omega arith in
-    subst (λ (y : View). AllByRecursion (IsTrueIn job x trace) y.misses) q.1 (subst (λ (y : ℕ). AllByRecursion (IsTrueIn job y trace) w.misses) (sym at)
-    (subst (AllByRecursion (IsTrueIn job k trace)) (sym are) (both_lists (IsTrueIn job k trace) more v.misses trues (old id v k me (omega arith) (omega arith))))))
+    let o = old id v k me (omega arith) (omega arith) in
+    subst (λ (y : View). AllByRecursion (IsTrueIn job x trace) y.misses × AreInOrder y.misses) q.1 (subst (λ (y : ℕ). AllByRecursion (IsTrueIn job y trace) w.misses × AreInOrder w.misses) (sym at)
+    (subst (λ (l : List Miss). AllByRecursion (IsTrueIn job k trace) l × AreInOrder l) (sym are) (both_lists (IsTrueIn job k trace) more v.misses trues o.0, in_order job k trace word more v.misses noted o.0 o.1))))
     (λ q. old i u x q.1 lo hi)
     (at_set views id i w u e) in
-    all_of (IsTrueIn job x trace) (IsTrueIn job x new) (longer x) u.misses was
+    (all_of (IsTrueIn job x trace) (IsTrueIn job x new) (longer x) u.misses was.0, was.1)
 
 unset_now : (moment : ℕ) (set : Maybe ℕ) → ((s : ℕ) → set ≡ Some s → ⊥) → IsNotAfter moment set
 unset_now moment None f = tt

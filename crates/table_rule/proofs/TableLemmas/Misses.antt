@@ -29,10 +29,10 @@ module _ (job : CoreJob) (room : ℕ) (t : TableState) (o : Shows job room t) (i
 
   -- a miss at any other word than the stop word, and one at the stop word
   pub noted_at : (place : ℕ) → place ≢ stop_at job.workers → AllByRecursion (IsNoted job k o.trace (get_or t.words (stop_at job.workers) 0)) (miss_of job room t o v place ∷ [])
-  noted_at place ne = (record { true = now_true place; last = refl; stop = λ is. absurd (ne is) }, tt)
+  noted_at place ne = (record { holds = now_true place; last = refl; stop = λ is. absurd (ne is) }, tt)
 
   pub noted_at_stop : get_or t.words (stop_at job.workers) 0 ≡ 0 → AllByRecursion (IsNoted job k o.trace (get_or t.words (stop_at job.workers) 0)) (miss_of job room t o v (stop_at job.workers) ∷ [])
-  noted_at_stop zero = (record { true = now_true (stop_at job.workers); last = refl; stop = λ is. (zero, zero) }, tt)
+  noted_at_stop zero = (record { holds = now_true (stop_at job.workers); last = refl; stop = λ is. (zero, zero) }, tt)
 
   now : IsMomentOf job room v (length o.trace)
   now = record { table = t; shown = o; seat = id; seated = me; long = refl; own = o.events id v v.own.worker me (omega arith) (omega arith); later = all_before job room t o id k v me (omega arith) (omega arith) }

@@ -99,7 +99,7 @@ true_now job w trace core m reached moment events word = (trace, [], sym (append
 
 -- a miss that worker k's pass notes at the end of the trace, where the stop word is `word`
 pub record IsNoted (job : CoreJob) (k : ℕ) (trace : List Step) (word : ℕ) (m : Miss) : Type 0 where
-  pub true : IsTrueIn job k trace m
+  pub holds : IsTrueIn job k trace m
   pub last : m.moment ≡ length trace
   pub stop : m.word ≡ stop_at job.workers → (m.found ≡ 0) × (word ≡ 0)
 
@@ -108,7 +108,7 @@ in_order job k trace word [] l noted trues order = order
 in_order job k trace word (m ∷ more) l noted trues order =
     let last = noted.0.last in (
       all_of (IsTrueIn job k trace) (λ (e : Miss). e.moment ≤ m.moment) (λ e h. let low = within_trace job k trace e h in omega (arith, low, last)) (more ++ l)
-          (both_lists (IsTrueIn job k trace) more l (all_of (IsNoted job k trace word) (IsTrueIn job k trace) (λ m h. h.true) more noted.1) trues),
+          (both_lists (IsTrueIn job k trace) more l (all_of (IsNoted job k trace word) (IsTrueIn job k trace) (λ m h. h.holds) more noted.1) trues),
       in_order job k trace word more l noted.1 trues order,
     )
 
@@ -117,7 +117,7 @@ pub misses_kept : (job : CoreJob) (views : List View) (id k : ℕ) (v w : View) 
     → w.misses ≡ more ++ v.misses → AllByRecursion (IsNoted job k trace word) more → ((x : ℕ) (m : Miss) → IsTrueIn job x trace m → IsTrueIn job x new m)
     → MissesAgree job views trace → MissesAgree job (set views id w) new
 misses_kept job views id k v w trace new more word me from to from' to' are noted longer old i u x e lo hi =
-    let trues = all_of (IsNoted job k trace word) (IsTrueIn job k trace) (λ m h. h.true) more noted in
+    let trues = all_of (IsNoted job k trace word) (IsTrueIn job k trace) (λ m h. h.holds) more noted in
     let was : AllByRecursion (IsTrueIn job x trace) u.misses × AreInOrder u.misses = ⊎_elim
     (λ q.
     let lo' : w.own.worker ≤ x = subst (λ (y : View). y.own.worker ≤ x) (sym q.1) lo in

@@ -1,5 +1,6 @@
 -- What a call of a pass tells of its moment, as its clauses say it.
-use Rattle.std.proofs.Common.{ℕ, ◌≡◌, subst}
+use Rattle.std.proofs.Common.{ℕ, ◌≡◌, ◌≢◌, ◌==◌, false, arith, subst}
+use Rattle.std.proofs.lemmas.Bool.Decides.{nat_tests}
 use Rattle.core_model.specs.State.{CoreJob}
 use Rattle.table_rule.specs.declared.view.Miss.{Miss}
 use Rattle.table_rule.specs.Shows.{room_of}
@@ -8,6 +9,10 @@ use Rattle.table_rule.specs.Tasks.{job_seen}
 use Rattle.core_table.specs.declared.table.CoreTable.{CoreTable}
 use Rattle.core_table.specs.declared.table.Pass.{Pass}
 use Rattle.core_table.specs.Passes.{IsPassOf, IsMomentIn, IsMissOf}
+
+-- a number that a look found is not the one that it looked for
+pub not_equal : (a b : ℕ) → (a == b) ≡ false → a ≢ b
+not_equal a b no e = grind (arith, nat_tests)
 
 pub moment_told : (table : CoreTable) (pass : Pass) (moment : ℕ) → IsPassOf table pass → IsMomentOf (job_seen pass.seat.me.0) pass.seat.me.0.room pass.seat.me.0 moment → IsMomentIn table pass moment
 moment_told table pass moment p h =

@@ -10,6 +10,7 @@ use Rattle.table_rule.specs.Passes.{leaving}
 use Rattle.table_rule.specs.Plays.{SeatState}
 use Rattle.table_rule.specs.Shows.{entry_of}
 use Rattle.table_rule.specs.Views.{with_step}
+use Rattle.core_table.proofs.PassLemmas.Refused.{miss_told}
 use Rattle.core_table.proofs.table.CoreTable.leave.Goals as goal
 use Rattle.table_rule.proofs.TableLemmas.OneState.{receipts}
 
@@ -46,3 +47,8 @@ returns-clause-left c =
       before,
       soon,
     )
+
+pub returns-then-seen-ne3-clause-stays : goal.returns-then-seen-ne3-clause-stays
+returns-then-seen-ne3-clause-stays c =
+    let ne = c.if-seen-ne3.true in let t = c.compare_exchange-seen.ensures.2.1 ne in
+    (t.0, (ne, t.2, miss_told c.args.self.now c.args.pass.now _ _ t.0 c.requires.pass (sym c.args.pass.now.number.0) t.1), ap (λ (m : SeatState). m.0) t.3)

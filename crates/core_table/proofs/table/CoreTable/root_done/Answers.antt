@@ -5,6 +5,10 @@ use Rattle.std.proofs.Common.{refl, ◌%◌, inl, inr}
 use Rattle.std.proofs.lemmas.Bool.{cases_eq}
 use Rattle.table_rule.specs.Views.{seeing_done, seeing_undone}
 use Rattle.core_table.proofs.PassLemmas.PassKept.{pass_kept}
+use Rattle.std.proofs.Common.{ℕ, sym, ap, ◌∙◌}
+use Rattle.table_rule.specs.Plays.{SeatState}
+use Rattle.table_rule.specs.Words.{node_at}
+use Rattle.core_table.proofs.PassLemmas.Refused.{not_equal, miss_told}
 use Rattle.core_table.proofs.table.CoreTable.root_done.Goals as goal
 
 pub load-requires : goal.load-requires
@@ -22,3 +26,11 @@ returns-clause-pass c =
       | inl e ↦ pass_kept c.args.self.now.setting _ c.args.pass.now.worker old c.load.new.seat (seeing_done old.me.0) c.load.ensures.0 (c.load.ensures.2.0 e) refl refl refl refl refl refl refl refl c.requires.pass
       | inr ne ↦ let t = c.load.ensures.2.1 ne in pass_kept c.args.self.now.setting _ c.args.pass.now.worker old c.load.new.seat (seeing_undone t.0 old.me.0) c.load.ensures.0 t.3 refl refl refl refl refl refl refl refl c.requires.pass
     ]
+
+pub returns-clause-undone : goal.returns-clause-undone
+returns-clause-undone c no =
+    let ne = not_equal (c.load.result % 4) 3 no in let t = c.load.ensures.2.1 ne in (
+      t.0,
+      ((λ e. ne (ap (λ (y : ℕ). y % 4) (sym t.2) ∙ e)), miss_told c.args.self.now c.args.pass.now _ _ t.0 c.requires.pass (c.node-at.ensures ∙ ap (λ (w : ℕ). node_at w 0) c.layout.ensures.workers) t.1),
+      ap (λ (m : SeatState). m.0) t.3,
+    )

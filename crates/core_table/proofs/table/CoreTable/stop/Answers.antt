@@ -3,6 +3,9 @@ use Rattle.table_rule.specs.Shows.{room_of, job_of}
 use Rattle.table_rule.specs.Views.{with_stop}
 use Rattle.table_rule.proofs.StepLemmas.LookSteps.{stops}
 use Rattle.core_table.proofs.PassLemmas.PassKept.{pass_kept}
+use Rattle.std.proofs.Common.{ap}
+use Rattle.table_rule.specs.Plays.{SeatState}
+use Rattle.core_table.proofs.PassLemmas.Refused.{moment_told}
 use Rattle.core_table.proofs.table.CoreTable.stop.Goals as goal
 
 pub store-requires : goal.store-requires
@@ -18,3 +21,7 @@ pub returns-clause-pass : goal.returns-clause-pass
 returns-clause-pass c =
     let old = c.args.pass.now.seat in let t = c.store.ensures.2.0 in
     pass_kept c.args.self.now.setting _ c.args.pass.now.worker old c.store.new.seat (with_stop t.0 old.me.0) c.store.ensures.0 t.2 refl refl refl refl refl refl refl refl c.requires.pass
+
+pub returns-clause-stopped : goal.returns-clause-stopped
+returns-clause-stopped c =
+    let t = c.store.ensures.2.0 in (t.0, moment_told c.args.self.now c.args.pass.now t.0 c.requires.pass t.1, ap (λ (m : SeatState). m.0) t.2)

@@ -5,6 +5,10 @@ use Rattle.table_rule.specs.Views.{with_step, with_miss}
 use Rattle.table_rule.specs.Shows.{room_of, job_of}
 use Rattle.table_rule.proofs.StepLemmas.LookSteps.{looks_at_stop}
 use Rattle.core_table.proofs.PassLemmas.PassKept.{pass_kept}
+use Rattle.std.proofs.Common.{ap, ◌∙◌}
+use Rattle.table_rule.specs.Plays.{SeatState}
+use Rattle.table_rule.specs.Words.{stop_at}
+use Rattle.core_table.proofs.PassLemmas.Refused.{not_equal, miss_told}
 use Rattle.core_table.proofs.table.CoreTable.stopped.Goals as goal
 
 pub load-requires : goal.load-requires
@@ -22,3 +26,8 @@ returns-clause-pass c =
       | inl e ↦ pass_kept c.args.self.now.setting _ c.args.pass.now.worker old c.load.new.seat (with_step finding_stop old.me.0) c.load.ensures.0 (c.load.ensures.2.0 e) refl refl refl refl refl refl refl refl c.requires.pass
       | inr ne ↦ let t = (c.load.ensures.2.1 ne).1 in pass_kept c.args.self.now.setting _ c.args.pass.now.worker old c.load.new.seat (with_miss t.0 finding_none old.me.0) c.load.ensures.0 t.3 refl refl refl refl refl refl refl refl c.requires.pass
     ]
+
+pub returns-clause-unset : goal.returns-clause-unset
+returns-clause-unset c no =
+    let z = c.load.ensures.2.1 (not_equal c.load.result 1 no) in let t = z.1 in
+    (t.0, (t.2 ∙ z.0, miss_told c.args.self.now c.args.pass.now _ _ t.0 c.requires.pass (c.stop-at.ensures ∙ ap stop_at c.layout.ensures.workers) t.1), ap (λ (m : SeatState). m.0) t.3)

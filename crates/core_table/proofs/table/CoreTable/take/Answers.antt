@@ -13,6 +13,7 @@ use Rattle.table_rule.proofs.StepLemmas.GateSteps.{looks}
 use Rattle.core_model.specs.State.{CoreJob}
 use Rattle.core_model.specs.Operations.{op_of}
 use Rattle.table_rule.specs.Plays.{SeatState, IsNewCall}
+use Rattle.core_table.proofs.PassLemmas.Refused.{miss_told}
 use Rattle.core_table.proofs.table.CoreTable.take.Goals as goal
 
 pub compare_exchange-seen-requires : goal.compare_exchange-seen-requires
@@ -83,3 +84,8 @@ returns-clause-took c =
       subst (λ (j : CoreJob). op_of j e.0.book t.0.leaf ≡ Some t.0.op) c.requires.pass.9 t.2,
       ap (λ (m : SeatState). m.0) last,
     )
+
+pub returns-then-seen-ne1-clause-passed : goal.returns-then-seen-ne1-clause-passed
+returns-then-seen-ne1-clause-passed c =
+    let ne = c.if-seen-ne1.true in let t = c.compare_exchange-seen.ensures.2.4 ne in
+    (t.0, (ne, t.2, miss_told c.args.self.now c.args.pass.now _ _ t.0 c.requires.pass refl t.1), ap (λ (m : SeatState). m.0) t.3)

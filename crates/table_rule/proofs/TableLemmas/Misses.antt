@@ -42,5 +42,6 @@ module _ (job : CoreJob) (room : ℕ) (t : TableState) (o : Shows job room t) (i
   moment_seen seen roomy = subst (λ (j : CoreJob). IsMomentOf j v.room v (length o.trace)) (sym seen) (subst (λ (r : ℕ). IsMomentOf job r v (length o.trace)) (sym roomy) now)
 
   pub miss_seen : job_seen v ≡ job → v.room ≡ room → (place : ℕ) → IsMissAt (job_seen v) v.room v place (miss_of job room t o v place)
+  unfolding now
   miss_seen seen roomy place = subst (λ (j : CoreJob). IsMissAt j v.room v place (miss_of job room t o v place)) (sym seen) (subst (λ (r : ℕ). IsMissAt job r v place (miss_of job room t o v place)) (sym roomy)
       record { word = refl; events = refl; at = now; found = refl })

@@ -1,5 +1,5 @@
-use Rattle.std.proofs.Common.{◌≡◌, arith, ap, sym, ◌∙◌, subst, ⊎_elim}
-use mathlib.Core.Option.{some, some-injective}
+use Rattle.std.proofs.Common.{◌≡◌, arith, ap, sym, ◌∙◌, ⊎_elim}
+use mathlib.Core.Option.{some-injective}
 use lib.ListN.{get_elem?}
 use Rattle.table_rule.specs.declared.view.View.{View}
 use Rattle.table_rule.proofs.laws.the_stop_word_is_set_by_a_pass.Goals as goal

@@ -12,7 +12,7 @@ use Rattle.core_table.specs.Passes.{IsPassOf, IsMomentIn, IsMissOf}
 
 -- a number that a look found is not the one that it looked for
 pub not_equal : (a b : ℕ) → (a == b) ≡ false → a ≢ b
-not_equal a b no e = grind (arith, nat_tests)
+not_equal a b denied e = grind (arith, nat_tests)
 
 pub moment_told : (table : CoreTable) (pass : Pass) (moment : ℕ) → IsPassOf table pass → IsMomentOf (job_seen pass.seat.me.0) pass.seat.me.0.room pass.seat.me.0 moment → IsMomentIn table pass moment
 moment_told table pass moment p h =

@@ -2,7 +2,7 @@ use Rattle.std.proofs.Common.{arith, refl}
 use Rattle.table_rule.specs.Shows.{room_of, job_of}
 use Rattle.table_rule.proofs.StepLemmas.JobSteps.{claims}
 use Rattle.table_rule.proofs.StepLemmas.LookSteps.{strays}
-use Rattle.std.proofs.Common.{ℕ, sym, ap, ◌∙◌}
+use Rattle.std.proofs.Common.{ℕ, ◌≡◌, sym, ap, ◌∙◌}
 use Rattle.table_rule.specs.Passes.{refusing}
 use Rattle.table_rule.specs.Plays.{SeatState}
 use Rattle.table_rule.specs.Views.{with_miss}
@@ -32,7 +32,7 @@ compare_exchange-requires-2 c =
     )
 
 pub returns-then-node-self-clause-refused : goal.returns-then-node-self-clause-refused
-returns-then-node-self-clause-refused c no =
+returns-then-node-self-clause-refused c denied =
     let (node, is, t, far) = c.compare_exchange.ensures.2 in
     let self = c.args.self.now in
     let past = c.if-node-self.true in
@@ -42,10 +42,10 @@ returns-then-node-self-clause-refused c no =
       ap (λ (m : SeatState). m.0) t.3 ∙ ap (λ (n : ℕ). with_miss t.0 (refusing n) c.args.pass.now.seat.me.0) (sym same),
     )
 
-pub returns-then-compare_exchange-2-ne1-clause-refused : goal.returns-then-compare_exchange-2-ne1-clause-refused
-returns-then-compare_exchange-2-ne1-clause-refused c no =
+pub returns-then-compare_exchange-ne1-clause-refused : goal.returns-then-compare_exchange-ne1-clause-refused
+returns-then-compare_exchange-ne1-clause-refused c denied =
     let self = c.args.self.now in let pass = c.args.pass.now in
-    let ne = c.if-compare_exchange-2-ne1.true in
+    let ne = c.if-compare_exchange-ne1.true in
     let place = c.node-at.ensures ∙ ap (λ (w : ℕ). node_at w c.args.node) c.layout.ensures.workers in
     let (node, is, won, lost) = c.compare_exchange-2.ensures.2 in
     let t = lost ne in

@@ -28,8 +28,8 @@ returns-clause-pass c =
     ]
 
 pub returns-clause-undone : goal.returns-clause-undone
-returns-clause-undone c no =
-    let ne = not_equal (c.load.result % 4) 3 no in let t = c.load.ensures.2.1 ne in (
+returns-clause-undone c denied =
+    let ne = not_equal (c.load.result % 4) 3 denied in let t = c.load.ensures.2.1 ne in (
       t.0,
       ((λ e. ne (ap (λ (y : ℕ). y % 4) (sym t.2) ∙ e)), miss_told c.args.self.now c.args.pass.now _ _ t.0 c.requires.pass (c.node-at.ensures ∙ ap (λ (w : ℕ). node_at w 0) c.layout.ensures.workers) t.1),
       ap (λ (m : SeatState). m.0) t.3,

@@ -28,6 +28,6 @@ returns-clause-pass c =
     ]
 
 pub returns-clause-unset : goal.returns-clause-unset
-returns-clause-unset c no =
-    let z = c.load.ensures.2.1 (not_equal c.load.result 1 no) in let t = z.1 in
+returns-clause-unset c denied =
+    let z = c.load.ensures.2.1 (not_equal c.load.result 1 denied) in let t = z.1 in
     (t.0, (t.2 ∙ z.0, miss_told c.args.self.now c.args.pass.now _ _ t.0 c.requires.pass (c.stop-at.ensures ∙ ap stop_at c.layout.ensures.workers) t.1), ap (λ (m : SeatState). m.0) t.3)

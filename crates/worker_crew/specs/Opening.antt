@@ -14,9 +14,8 @@ use Rattle.launch_batch.specs.declared.piece.PieceOut.{PieceOut}
 use Rattle.core_table.specs.declared.table.CoreTable.{CoreTable}
 use Rattle.worker_crew.specs.declared.batch_pieces.BatchPieces.{BatchPieces}
 use Rattle.worker_crew.specs.declared.crew.Me.{Me}
-use Rattle.worker_crew.specs.Words.{Idle}
-use Rattle.table_rule.specs.declared.view.PassView.{PassView}
-use Rattle.worker_crew.specs.Passes.{IsFree}
+use Rattle.core_table.specs.Passes.{pass_view}
+use Rattle.table_rule.specs.Passes.{unused}
 use Rattle.worker_crew.specs.Workers.{IsReady}
 
 -- whether the act is a call
@@ -33,16 +32,12 @@ abbrev pub opening_hand : ℕ → ℕ → Held
 opening_hand worker workers =
     if worker == 0 then with_root (fresh_hand worker workers) else fresh_hand worker workers
 
--- the pass is that of this worker, which has no call out, no flag and no task
-pub record IsFreshPass (worker : ℕ) (pass : PassView) : Type 0 where
-  pub worker_is : pass.worker ≡ worker
-  pub free : IsFree pass
-  pub idle : pass.task ≡ Idle
-
 module _ (table : CoreTable) (decks : Decks) (board : Board BatchPieces PieceIn PieceOut) (workers : ℕ) where
-  -- `me` is this worker, ready for its first turn: its hand is the initial one, its desk and its tries are unused
+  -- `me` is this worker, ready for its first turn: its pass, its desk and its tries are unused, and its hand is the
+  -- initial one
   pub record IsAtStart (worker : ℕ) (me : Me) : Type 0 where
     pub ready : IsReady table decks board me
+    pub pass : pass_view me.pass ≡ unused worker
     pub hand : held me.hand ≡ opening_hand worker workers
     pub desk : desk_view me.desk ≡ fresh_desk worker
     pub tries : me.tries ≡ first_tries worker workers

@@ -1,1 +1,2 @@
+pub mod Popping
 pub mod Serving

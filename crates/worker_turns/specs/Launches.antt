@@ -4,6 +4,8 @@ use Rattle.seq_objects.specs.declared.call.Call.{Call}
 use Rattle.seq_objects.specs.Batches.{AreInBatchOrder}
 use Rattle.core_model.specs.Words.{Entry}
 use Rattle.core_model.specs.declared.event.Event.TheVariants.{Take, Publish, Answer, Release}
+use Rattle.two_deques.specs.declared.spot.Spot.{Spot}
+use Rattle.two_deques.specs.Ends.{HeldEnds, risen}
 use Rattle.launch_batch.specs.Calls.{ArePermutations}
 use Rattle.launch_batch.specs.Places.{places}
 use Rattle.worker_crew.specs.Words.{Event}
@@ -22,6 +24,23 @@ pub record ExecutesPieces (posted : List ℕ) (old new : Desk) : Type 0 where
   pub gave : new.given ≡ old.given ++ given
   pub finishes : new.finishes ≡ old.finishes + length given
   pub row : new.row ≡ old.row
+
+-- the spots of these places in a worker's row
+abbrev pub spots_of : ℕ → List ℕ → List Spot
+spots_of row places = map (λ place. record { row = row; place = place }) places
+
+-- A worker pushed these spots on its own deque of pieces, and then popped this deque until a pop gave nothing. What it
+-- stole from other deques meanwhile is not said.
+pub record HandsOut (spots : List Spot) (old new : HeldEnds Spot) : Type 0 where
+  pub popped : List Spot
+  pub own : old.own ++ spots ≡ new.own ++ popped
+  pub pushes : new.pushes ≡ old.pushes + length spots
+  pub emptied : new.empty_pops ≡ risen old.empty_pops
+
+-- Each look for a result that found none was followed by a look at the stop word, which found it unset.
+abbrev pub LooksWhileWaiting : WorkerView → WorkerView → Type 0
+LooksWhileWaiting old new =
+    new.desk.empty_collects + old.pass.stop_looks ≤ old.desk.empty_collects + new.pass.stop_looks
 
 -- `posted` is the list of places of the pieces of a batch of these calls, put in batch order, after the book.
 abbrev pub ArePlaces : List (List Entry) → List Call → List ℕ → Type 0
@@ -68,8 +87,9 @@ pub record Collects (workers : ℕ) (book : List (List Entry)) (posted : List �
       × (served ≡ serve_events (length book) batch))
 
 -- A launch by a worker whose win found `book`. At the release the hold was `done`, and its book is the one that the
--- pass has seen. While the worker waited for results, it may have looked at the stop word, and found it unset. The ends
--- of the deques of nodes are unchanged.
+-- pass has seen. If there was a batch, the spots of its pieces went on the worker's own deque, which it popped until
+-- that was empty. While the worker waited for results, it looked at the stop word, and found it unset. The ends of the
+-- deques of nodes are unchanged.
 pub record Launches (workers : ℕ) (book : List (List Entry)) (old new : WorkerView) : Type 0 where
   pub done : HoldView
   pub posted : List ℕ
@@ -83,5 +103,7 @@ pub record Launches (workers : ℕ) (book : List (List Entry)) (old new : Worker
     events = old.pass.events ++ launch_events workers served;
   }
   pub looks : old.pass.stop_looks ≤ new.pass.stop_looks
+  pub waits : LooksWhileWaiting old new
   pub desk : ExecutesPieces posted old.desk new.desk
+  pub handed : ((posted ≡ []) × (new.batch ≡ old.batch)) ⊎ HandsOut (spots_of old.desk.row posted) old.batch new.batch
   pub core : new.core ≡ old.core

@@ -16,14 +16,17 @@ use Rattle.core_table.specs.declared.table.CoreTable.{CoreTable}
 use Rattle.core_table.specs.Passes.{IsPassOf, pass_view}
 use Rattle.worker_crew.specs.declared.batch_pieces.BatchPieces.{BatchPieces}
 use Rattle.worker_crew.specs.declared.crew.Me.{Me}
-use Rattle.worker_crew.specs.Opening.{with_root, opening_hand, IsFreshPass, IsAtStart, AreAtStart}
+use Rattle.worker_crew.specs.Opening.{with_root, opening_hand, IsAtStart, AreAtStart}
+use Rattle.worker_crew.specs.Passes.{IsFree}
+use Rattle.table_rule.specs.declared.view.PassView.{PassView}
+use Rattle.table_rule.specs.Passes.{unused}
 
 worker_by : (b : Bool) (h : Held) → (if b then with_root h else h).worker ≡ h.worker
 worker_by true h = refl
 worker_by false h = refl
 
 module _ (table : CoreTable) (decks : Decks) (board : Board BatchPieces PieceIn PieceOut) (workers : ℕ) where
-  pub at_start : (worker : ℕ) (me : Me) → IsPassOf table me.pass × IsFreshPass worker (pass_view me.pass) → IsHandOf decks me.hand → held me.hand ≡ opening_hand worker workers
+  pub at_start : (worker : ℕ) (me : Me) → IsPassOf table me.pass × (pass_view me.pass ≡ unused worker) → IsHandOf decks me.hand → held me.hand ≡ opening_hand worker workers
       → IsDeskOf board me.desk → desk_view me.desk ≡ fresh_desk worker → me.tries ≡ first_tries worker workers
       → workers_of decks ≡ workers → IsAtStart table decks board workers worker me
   at_start worker me pass hand opening desk fresh tries count =
@@ -34,15 +37,16 @@ module _ (table : CoreTable) (decks : Decks) (board : Board BatchPieces PieceIn 
             pass = pass.0;
             hand = hand;
             desk = desk;
-            worker = pass.1.worker_is ∙ sym own;
+            worker = ap (λ (p : PassView). p.worker) pass.1 ∙ sym own;
             row = ap (λ (d : DeskView PieceIn). d.row) fresh ∙ sym own;
             tries = ap (λ (t : TriesView). t.worker) tries ∙ sym own;
             workers = ap (λ (t : TriesView). t.workers) tries ∙ sym count;
           };
-          free = pass.1.free;
-          idle = pass.1.idle;
+          free = subst IsFree (sym pass.1) (refl, refl);
+          idle = ap (λ (p : PassView). p.task) pass.1;
           row = ap (λ (d : DeskView PieceIn). d.posted) fresh;
         };
+        pass = pass.1;
         hand = opening;
         desk = fresh;
         tries = tries;

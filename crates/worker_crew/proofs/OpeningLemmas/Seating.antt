@@ -5,7 +5,7 @@ use Rattle.table_rule.specs.declared.view.View.{View}
 use Rattle.core_table.specs.declared.table.CoreTable.{CoreTable}
 use Rattle.core_table.specs.declared.table.Pass.{Pass}
 use Rattle.core_table.specs.Passes.{IsPassOf, view, pass_view, opening_view}
-use Rattle.worker_crew.specs.Opening.{IsFreshPass}
+use Rattle.table_rule.specs.Passes.{unused}
 
 -- it is a pass of the table, as it was made
 abbrev IsOpeningPass : CoreTable → ℕ → Pass → Type 0
@@ -14,10 +14,10 @@ IsOpeningPass table w pass = IsPassOf table pass × (view pass ≡ opening_view 
 pub seat_at : (table : CoreTable) (passes : List Pass) (count : ℕ) → length passes ≡ count
     → ((w : ℕ) → IfSome (slice_get passes w) (IsOpeningPass table w))
     → (w : ℕ) (pass : Pass) → w < count → pass ≡ get_or passes w pass
-    → IsPassOf table pass × IsFreshPass w (pass_view pass)
+    → IsPassOf table pass × (pass_view pass ≡ unused w)
 seat_at table passes count long made w pass lt at =
     let there : slice_get passes w ≡ Some pass =
     slice_get-get_or passes w pass (omega (arith, lt, long)) ∙ ap (λ (p : Pass). Some p) (sym at) in
     let opening : IsOpeningPass table w pass =
     subst (λ (o : Option Pass). IfSome o (IsOpeningPass table w)) there (made w) in
-    (opening.0, subst (λ (v : View). IsFreshPass w v.own) (sym opening.1) (record { worker_is = refl; free = (refl, refl); idle = refl }))
+    (opening.0, ap (λ (v : View). v.own) opening.1)

@@ -3,10 +3,11 @@ ghost use Rattle.std.specs.Prelude.{◌≡◌, ◌*◌, ◌<◌, ◌≤◌, ℕ,
 ghost use Rattle.std.specs.List.{count_by};
 ghost use Rattle.core_table.specs.declared.table.Pass.{Pass as PassOf};
 ghost use Rattle.core_table.specs.Passes.{IsPassOf, job_in, pass_view, planned_in};
+ghost use Rattle.table_rule.specs.Passes.{unused};
 ghost use Rattle.two_deques.specs.Hands.{core_room_of, batch_room_of};
 ghost use Rattle.two_deques.specs.Hands.{held, workers_of, fresh_hand, IsHandOf, AreHands};
 ghost use Rattle.piece_board.specs.Boards.{workers_of as rows_of, AreDesks};
-ghost use Rattle.worker_crew.specs.Opening.{is_call, opening_hand, IsFreshPass, AreAtStart};
+ghost use Rattle.worker_crew.specs.Opening.{is_call, opening_hand, AreAtStart};
 
 use crate::batch_pieces::BatchPieces;
 use crate::crew::{Crew, Me};
@@ -60,7 +61,7 @@ fn make_workers<G: Pause>(
     requires count { length passes.items ≡ crew.now.workers }
     requires passes { (w : ℕ) (pass : PassOf) → w < crew.now.workers
         → pass ≡ slice_index_or passes.items w pass
-        → IsPassOf crew.now.table pass × IsFreshPass w (pass_view pass) }
+        → IsPassOf crew.now.table pass × (pass_view pass ≡ unused w) }
     requires hands { AreHands crew.now.decks hands.items }
     requires desks { AreDesks crew.now.board desks.items }
     ensures { IfOk result (λ mes. AreAtStart crew.now.table crew.now.decks crew.now.board

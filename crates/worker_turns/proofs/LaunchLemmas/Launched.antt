@@ -64,6 +64,8 @@ none_launched old new q workers calls book won (found, are, is) none now free =
       gathers = record { looked = refl; found = are; batch = inl (record { none = none; early = refl }, refl, refl, refl) };
       released = by_looks old.pass new.pass h h.book _ old.pass.stop_looks pass;
       looks = (let l = ap (λ (p : PassView). p.stop_looks) pass in omega (arith, l));
+      waits = (let l = ap (λ (p : PassView). p.stop_looks) pass in let e = ap (λ (m : WorkerView). m.desk.empty_collects) now in omega (arith, l, e));
+      handed = inl (refl, ap (λ (m : WorkerView). m.batch) now);
       desk = record {
         posts = ap (λ (m : WorkerView). m.desk.posts) now ∙ sym (append-nil _);
         collects = (let c = ap (λ (m : WorkerView). m.desk.collects) now in omega (arith, c));
@@ -110,7 +112,9 @@ served_launched old new q r workers calls book after won may (found, are, is) s 
       };
       released = by_looks old.pass new.pass done done.book _ r.stop_looks pass;
       looks = (let l = ap (λ (p : PassView). p.stop_looks) pass in let before = ap (λ (p : PassView). p.stop_looks) is in let more = s.looks in omega (arith, l, before, more));
+      waits = (let l = ap (λ (p : PassView). p.stop_looks) pass in let before = ap (λ (p : PassView). p.stop_looks) is in let more = s.waits in omega (arith, l, before, more));
       desk = s.desk;
+      handed = inr s.handed;
       core = s.core;
     }
 

@@ -8,7 +8,7 @@ use Rattle.table_rule.specs.Passes.{new_hold, in_hold, without_first}
 use Rattle.worker_turns.specs.Holds.{workers_in, IsPublished}
 use Rattle.table_rule.specs.declared.view.PassView.{PassView}
 use Rattle.worker_crew.specs.Workers.{WorkerView}
-use Rattle.worker_turns.specs.Launches.{ExecutesPieces, ArePlaces, AreFound, look_events, answer_events, serve_events}
+use Rattle.worker_turns.specs.Launches.{ExecutesPieces, HandsOut, spots_of, LooksWhileWaiting, ArePlaces, AreFound, look_events, answer_events, serve_events}
 
 -- there is a hold, and it satisfies P
 abbrev pub Holds : (HoldView → Type 0) → Option HoldView → Type 0
@@ -87,5 +87,7 @@ pub record ServesBatch (book : List (List Entry)) (calls : List Call) (after : L
     events = old.pass.events ++ serve_events (length book) batch;
   }
   pub looks : old.pass.stop_looks ≤ new.pass.stop_looks
+  pub waits : LooksWhileWaiting old new
   pub desk : ExecutesPieces posted old.desk new.desk
+  pub handed : HandsOut (spots_of old.desk.row posted) old.batch new.batch
   pub core : new.core ≡ old.core

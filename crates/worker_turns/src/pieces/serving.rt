@@ -9,9 +9,10 @@ ghost use Rattle.piece_board.specs.Boards.{desk_view};
 ghost use Rattle.two_deques.specs.Hands.{held};
 ghost use Rattle.core_table.specs.Passes.{IsPassOf, pass_view};
 ghost use Rattle.worker_crew.specs.declared.crew.Stop.TheVariants.{Memory};
-ghost use Rattle.worker_crew.specs.Workers.{IsMeOf};
+ghost use Rattle.worker_crew.specs.Workers.{IsMeOf, me_seen};
 ghost use Rattle.worker_turns.specs.Pieces.{DrainsRow, after_posts, with_place};
-ghost use Rattle.worker_turns.specs.Launches.{ExecutesPieces};
+ghost use Rattle.worker_turns.specs.Code.Popping.{PopsUntilEmpty, OnlyStole, after_pushes};
+ghost use Rattle.worker_turns.specs.Launches.{ExecutesPieces, HandsOut, LooksWhileWaiting, spots_of};
 ghost use Rattle.worker_turns.specs.Stops.{HasOnlyLooked, IsStop};
 
 use crate::attempts::PieceAttempt;
@@ -41,6 +42,8 @@ fn post_all<G: Pause>(
     ensures me { IfOk result (λ _. IsMeOf crew.now.table crew.now.decks crew.now.board me.new) }
     ensures places { IfOk result (λ places. places.items ≡ map place_of ins.items) }
     ensures desk { IfOk result (λ _. desk_view me.new.desk ≡ after_posts ins.items (desk_view me.old.desk)) }
+    ensures pushed { IfOk result (λ places. (held me.new.hand).batch
+        ≡ after_pushes (spots_of (held me.old.hand).worker places.items) (held me.old.hand).batch) }
     ensures core { (held me.new.hand).core ≡ (held me.old.hand).core }
     ensures pass { me.new.pass ≡ me.old.pass }
     ensures failed { IfErr result (λ stop. stop ≡ Memory) }
@@ -59,21 +62,28 @@ fn post_all<G: Pause>(
     Ok(places)
 }
 
-/// Runs pieces of the worker's own deque until a pop gives none, or after 64 pops. A batch has at most 56 pieces.
-fn run_own<G: Pause>(alloc: Global, crew: &Crew<G>, me: &mut Me) -> Result<(), Stop>
+/// Runs pieces of the worker's own deque until a pop gives none.
+fn run_own<G: Pause, R: Wait>(
+    rt: &R,
+    alloc: Global,
+    crew: &Crew<G>,
+    me: &mut Me,
+) -> Result<(), Stop>
     requires me { IsMeOf crew.now.table crew.now.decks crew.now.board me.old }
     ensures me { IfOk result (λ _. IsMeOf crew.now.table crew.now.decks crew.now.board me.new) }
     ensures desk { IfOk result (λ _. DrainsRow 0 (desk_view me.old.desk) (desk_view me.new.desk)) }
+    ensures emptied { IfOk result (λ _. PopsUntilEmpty (held me.old.hand).batch (held me.new.hand).batch) }
+    ensures waits { IfOk result (λ _. LooksWhileWaiting (me_seen me.old) (me_seen me.new)) }
     ensures core { IfOk result (λ _. (held me.new.hand).core ≡ (held me.old.hand).core) }
     ensures pass { me.new.pass ≡ me.old.pass }
     ensures failed { IfErr result (λ stop. stop ≡ Memory) }
 {
-    for _ in 0..64u32 {
+    for _ in rt.forever() {
         if let PieceAttempt::Empty = pop_own_piece(alloc, crew, me)? {
             return Ok(());
         }
     }
-    Ok(())
+    unreachable!()
 }
 
 /// Waits for the result at `place`, the first place of the worker's own row that is not free. After each look that
@@ -94,6 +104,8 @@ fn collect_one<G: Pause, R: Wait>(
     ensures meets { IfOk result (λ out. (input : Input) (rest : List (ℕ × Input))
         → (desk_view me.old.desk).posted ≡ (place, input) ∷ rest → Meets input out) }
     ensures desk { IfOk result (λ _. DrainsRow 1 (desk_view me.old.desk) (desk_view me.new.desk)) }
+    ensures stole { IfOk result (λ _. OnlyStole (held me.old.hand).batch (held me.new.hand).batch) }
+    ensures waits { IfOk result (λ _. LooksWhileWaiting (me_seen me.old) (me_seen me.new)) }
     ensures core { IfOk result (λ _. (held me.new.hand).core ≡ (held me.old.hand).core) }
     ensures seen { IfOk result (λ _. HasOnlyLooked (pass_view me.old.pass) (pass_view me.new.pass)) }
     ensures stopped { IfErr result (λ stop. IsStop stop (pass_view me.old.pass) (pass_view me.new.pass)) }
@@ -128,6 +140,8 @@ fn collect_all<G: Pause, R: Wait>(
     ensures meet { IfOk result (λ outs. (ins : List Input)
         → (desk_view me.old.desk).posted ≡ map with_place ins → AllMeet Meets ins outs.items) }
     ensures desk { IfOk result (λ _. DrainsRow (length places.now) (desk_view me.old.desk) (desk_view me.new.desk)) }
+    ensures stole { IfOk result (λ _. OnlyStole (held me.old.hand).batch (held me.new.hand).batch) }
+    ensures waits { IfOk result (λ _. LooksWhileWaiting (me_seen me.old) (me_seen me.new)) }
     ensures core { IfOk result (λ _. (held me.new.hand).core ≡ (held me.old.hand).core) }
     ensures seen { IfOk result (λ _. HasOnlyLooked (pass_view me.old.pass) (pass_view me.new.pass)) }
     ensures stopped { IfErr result (λ stop. IsStop stop (pass_view me.old.pass) (pass_view me.new.pass)) }
@@ -158,11 +172,14 @@ pub(crate) fn serve_pieces<G: Pause, R: Wait>(
     ensures meet { IfOk result (λ outs. AllMeet Meets ins.items outs.items) }
     ensures desk { IfOk result (λ _.
         ExecutesPieces (map place_of ins.items) (desk_view me.old.desk) (desk_view me.new.desk)) }
+    ensures handed { IfOk result (λ _.
+        HandsOut (spots_of (desk_view me.old.desk).row (map place_of ins.items)) (held me.old.hand).batch (held me.new.hand).batch) }
+    ensures waits { IfOk result (λ _. LooksWhileWaiting (me_seen me.old) (me_seen me.new)) }
     ensures core { IfOk result (λ _. (held me.new.hand).core ≡ (held me.old.hand).core) }
     ensures seen { IfOk result (λ _. HasOnlyLooked (pass_view me.old.pass) (pass_view me.new.pass)) }
     ensures stopped { IfErr result (λ stop. IsStop stop (pass_view me.old.pass) (pass_view me.new.pass)) }
 {
     let places = post_all(crew, me, ins)?;
-    run_own(alloc, crew, me)?;
+    run_own(rt, alloc, crew, me)?;
     collect_all(rt, alloc, crew, me, places.as_slice())
 }

@@ -1,11 +1,13 @@
-use Rattle.std.proofs.Common.{rules, ◌≡◌, List, [], ◌∷◌, length, map, ap, ◌∙◌, arith, length-append}
+use Rattle.std.proofs.Common.{rules, ◌≡◌, List, [], ◌∷◌, length, map, refl, ap, ◌∙◌, arith, length-append}
 use Rattle.core_model.specs.Words.{Entry}
 use Rattle.seq_objects.specs.Pieces.{BatchContext}
 use Rattle.launch_batch.specs.declared.piece.PieceIn.{PieceIn}
 use Rattle.launch_batch.specs.Pieces.{place_of}
 use Rattle.core_table.specs.Passes.{pass_view}
+use Rattle.worker_crew.specs.Workers.{me_seen}
 use Rattle.worker_turns.proofs.HoldLemmas.Passes.{own_of}
-use Rattle.worker_turns.proofs.LaunchLemmas.Batches.{few_before, publishable, answerable, pass_served, served_looks, last_at}
+use Rattle.worker_turns.proofs.PieceLemmas.Handing.{waits_same}
+use Rattle.worker_turns.proofs.LaunchLemmas.Batches.{few_before, publishable, answerable, pass_looks, pass_served, served_looks, last_at}
 use Rattle.worker_turns.proofs.launching.serve_batch.Goals as goal
 
 pub overflow_cast-number : goal.overflow_cast-number
@@ -54,6 +56,9 @@ returns-clause-batch g c =
       grown = grown;
       pass = pass_served (pass_view c.args.me.now.pass) _ _ _ _ c.args.shop c.in_ok-shop.batch _ c.in_ok-outs.ensures.seen (own_of _ _ c.publish.ensures.published) c.answer_all.ensures.answered (ap (λ (l : List (List Entry)). length l) book) all;
       looks = served_looks (pass_view c.args.me.now.pass) _ _ _ _ c.args.shop c.in_ok-shop.batch _ c.in_ok-outs.ensures.seen (own_of _ _ c.publish.ensures.published) c.answer_all.ensures.answered;
+      waits = waits_same (me_seen c.args.me.now) (me_seen c.serve_pieces.new.me) _ c.in_ok-outs.ensures.waits refl
+          (pass_looks (pass_view c.args.me.now.pass) _ _ _ _ c.args.shop c.in_ok-shop.batch _ c.in_ok-outs.ensures.seen (own_of _ _ c.publish.ensures.published) c.answer_all.ensures.answered);
       desk = c.in_ok-outs.ensures.desk;
+      handed = c.in_ok-outs.ensures.handed;
       core = c.in_ok-outs.ensures.core;
     }

@@ -39,6 +39,7 @@ pub loop-input-preserved : goal.loop-input-preserved
 loop-input-preserved g c =
     let i = c.loop-input.invariant in record {
       me = search rules;
+      batch = search rules;
       core = search rules;
       pass = i.pass;
       all = grind (arith, common_steps, c.in-Some.ensures.steps, i.all);

@@ -1,11 +1,12 @@
 //! Two workers of a running table, each in a thread, that claim whatever node they find ready.
-ghost use Rattle.std.specs.Prelude.{◌≡◌, [], None, Some, IfOk};
+ghost use Rattle.std.specs.Prelude.{◌≡◌, ◌≢◌, [], None, Some, IfOk};
 ghost use Rattle.core_table.specs.Passes.{job_in, pass_view, next_in, IsNotTrapped};
 ghost use Rattle.piece_board.specs.Boards.{desk_view};
+ghost use Rattle.two_deques.specs.Hands.{held};
 ghost use Rattle.worker_crew.specs.Workers.{IsMeOf};
 
 use crate::steps::{claim, go_on};
-use bt_io::Pause;
+use bt_io::{Pause, Point};
 use core_model::Next;
 use std::alloc::Global;
 use std::sync::Wait;
@@ -105,18 +106,49 @@ fn work_to<G: Pause, R: Wait>(
     unreachable!()
 }
 
+/// Takes a piece of worker 0's launch, and ends as a worker does that is out of memory: it sets the stop word, and never
+/// finishes the piece.
+fn leave_a_piece<G: Pause, R: Wait>(rt: &R, crew: &Crew<G>, me: &mut Me) -> Stop
+    requires me { IsMeOf crew.now.table crew.now.decks crew.now.board me.old }
+    requires other { (held me.old.hand).worker ≢ 0 }
+{
+    for _ in rt.forever() {
+        if let Some(spot) = crew.decks.steal_piece(rt, &mut me.hand, 0) {
+            if crew
+                .board
+                .claim(&mut me.desk, spot.row, spot.place)
+                .is_some()
+            {
+                crew.pause.at(Point::PieceStart(spot.place), 1);
+                crew.table.stop(&mut me.pass);
+                return Stop::Memory;
+            }
+        }
+    }
+    unreachable!()
+}
+
+/// What a worker does in a run.
+#[derive(Clone, Copy)]
+pub(crate) enum Part {
+    /// It tries the nodes until it has made so many calls, or the root is done.
+    Calls(usize),
+    /// Where it is not worker 0, it takes a piece of worker 0's launch, and leaves it.
+    LeavesAPiece,
+}
+
 /// What threads share of a run, seen by a test that starts them over any type that can be shared.
 pub(crate) trait Team<M> {
     /// The worker can begin.
     ghost ready: { Self → M → Type 0 };
 
-    /// Lets a worker try the nodes until it has made so many calls, or the root is done.
+    /// Lets a worker do its part, and gives the calls that it made.
     fn work<R: Wait>(
         &self,
         rt: &R,
         alloc: Global,
         me: &mut M,
-        calls: usize,
+        part: Part,
     ) -> Result<Vec<Made>, Stop>
         requires ready { ready self.now me.old }
         ensures ready { IfOk result (λ _. ready self.now me.new) };
@@ -132,8 +164,12 @@ impl<'a, G: Pause> Team<Me> for Crew<'a, G> {
         rt: &R,
         alloc: Global,
         me: &mut Me,
-        calls: usize,
+        part: Part,
     ) -> Result<Vec<Made>, Stop> {
-        work_to(rt, alloc, self, me, calls)
+        match part {
+            Part::Calls(calls) => work_to(rt, alloc, self, me, calls),
+            Part::LeavesAPiece if me.hand.worker() != 0 => Err(leave_a_piece(rt, self, me)),
+            Part::LeavesAPiece => Err(Stop::Stopped),
+        }
     }
 }

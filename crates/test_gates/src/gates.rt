@@ -82,6 +82,20 @@ impl Pause for AtCalls {
     }
 }
 
+/// The workers meet where each is about to run its first piece.
+#[derive(Drop)]
+pub struct AtPieces {
+    pub pieces: Meeting,
+}
+
+impl Pause for AtPieces {
+    fn at(&self, point: Point, worker: u32) {
+        if let Point::PieceStart(_) = point {
+            self.pieces.meet(worker);
+        }
+    }
+}
+
 /// The second worker to start a leaf is held until the first has posted a call and won the flag, and the winner is held
 /// until the second has posted too. So that call is posted while a launcher is at work and no batch is published.
 #[derive(Drop)]

@@ -7,5 +7,5 @@
 mod gates;
 mod meeting;
 
-pub use gates::{AtCalls, AtPosts, AtStarts, AtWin};
+pub use gates::{AtCalls, AtPieces, AtPosts, AtStarts, AtWin};
 pub use meeting::Meeting;

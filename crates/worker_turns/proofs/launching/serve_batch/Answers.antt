@@ -56,7 +56,7 @@ returns-clause-batch g c =
       grown = grown;
       pass = pass_served (pass_view c.args.me.now.pass) _ _ _ _ c.args.shop c.in_ok-shop.batch _ c.in_ok-outs.ensures.seen (own_of _ _ c.publish.ensures.published) c.answer_all.ensures.answered (ap (λ (l : List (List Entry)). length l) book) all;
       looks = served_looks (pass_view c.args.me.now.pass) _ _ _ _ c.args.shop c.in_ok-shop.batch _ c.in_ok-outs.ensures.seen (own_of _ _ c.publish.ensures.published) c.answer_all.ensures.answered;
-      waits = waits_same (me_seen c.args.me.now) (me_seen c.serve_pieces.new.me) _ c.in_ok-outs.ensures.waits refl
+      waits = waits_same (me_seen c.args.me.now) (me_seen c.serve_pieces.new.me) (record (me_seen c.serve_pieces.new.me) { pass = pass_view c.answer_all.new.pass }) c.in_ok-outs.ensures.waits refl
           (pass_looks (pass_view c.args.me.now.pass) _ _ _ _ c.args.shop c.in_ok-shop.batch _ c.in_ok-outs.ensures.seen (own_of _ _ c.publish.ensures.published) c.answer_all.ensures.answered);
       desk = c.in_ok-outs.ensures.desk;
       handed = c.in_ok-outs.ensures.handed;

@@ -8,6 +8,7 @@ use Rattle.worker_turns.proofs.PieceLemmas.Looks.{looked_none, looked_then}
 use Rattle.worker_turns.proofs.PieceLemmas.Working.{works_none, works_more}
 use Rattle.worker_turns.proofs.PieceLemmas.Collecting.{next_posted, next_place, named_for}
 use Rattle.worker_turns.proofs.PieceLemmas.Met.{meets_push}
+use Rattle.worker_crew.specs.Workers.{me_seen}
 use Rattle.worker_turns.proofs.PieceLemmas.Handing.{stole_none, stole_then, waits_none, waits_then}
 use Rattle.worker_turns.proofs.pieces.serving.collect_all.Goals as goal
 
@@ -16,7 +17,7 @@ loop-k-init g c = record {
   me = c.requires.me;
   core = refl;
   stole = stole_none _;
-  waits = waits_none _;
+  waits = waits_none (me_seen c.args.me.now);
   seen = looked_none _;
   desk = works_none _;
   meet = λ ins is. subst (λ (outs : List PieceOut). AllMeet Meets [] outs) (sym c.in_ok-outs.ensures.items) tt;
@@ -48,7 +49,7 @@ loop-k-preserved g c =
       me = e.me;
       core = e.core ∙ i.core;
       stole = stole_then _ _ _ i.stole e.stole;
-      waits = waits_then _ _ _ i.waits e.waits;
+      waits = waits_then (me_seen c.args.me.now) (me_seen c.loop-k.me) (me_seen c.collect_one.new.me) i.waits e.waits;
       seen = looked_then _ _ _ i.seen e.seen;
       desk = works_more c.loop-k.k 1 _ _ _ i.desk e.desk _ refl;
       meet = λ ins is.

@@ -6,8 +6,12 @@ use Rattle.seq_objects.specs.Orders.{StrictlyAscends}
 use Rattle.seq_objects.proofs.Elements.{each_right}
 use Rattle.launch_batch.specs.declared.piece.PieceIn.{PieceIn}
 use Rattle.launch_batch.specs.Pieces.{place_of}
+use Rattle.two_deques.specs.declared.spot.Spot.{Spot}
+use Rattle.two_deques.specs.Hands.{Held, held}
+use Rattle.two_deques.specs.Ends.{after_push}
 use Rattle.piece_board.specs.Boards.{desk_view}
 use Rattle.worker_turns.proofs.PieceLemmas.Working.{posted_more, free_next}
+use Rattle.worker_turns.proofs.PieceLemmas.Handing.{pushed_more}
 use Rattle.worker_turns.proofs.pieces.serving.post_all.Goals as goal
 
 pub post-requires-clause-place : goal.post-requires-clause-place
@@ -37,9 +41,12 @@ push-requires g c =
 
 pub loop-input-preserved : goal.loop-input-preserved
 loop-input-preserved g c =
-    let i = c.loop-input.invariant in record {
+    let i = c.loop-input.invariant in
+    let spot : Spot = record { row = c.worker-row.result; place = c.place-place.result } in
+    let pushed : held c.push_piece.new.hand ≡ record (held c.loop-input.me.hand) { batch = after_push spot (held c.loop-input.me.hand).batch } = search rules in record {
       me = search rules;
-      batch = search rules;
+      batch = rw c.push.ensures.items (pushed_more c.worker-row.result c.place-place.result c.loop-input.places.items (held c.args.me.now.hand).batch (held c.loop-input.me.hand).batch
+          (held c.push_piece.new.hand).batch i.batch (ap (λ (h : Held). h.batch) pushed));
       core = search rules;
       pass = i.pass;
       all = grind (arith, common_steps, c.in-Some.ensures.steps, i.all);

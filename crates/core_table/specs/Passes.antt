@@ -60,10 +60,10 @@ abbrev pub IsNotTrapped : Pass → Type 0
 IsNotTrapped pass = (view pass).own.call ≢ Out
 
 -- A moment of a call with this pass, and what the call finds in the word at `place`, where that is not what it looks for.
-abbrev pub IsMomentIn : CoreTable → Pass → ℕ → Type 0
+unfoldable pub IsMomentIn : CoreTable → Pass → ℕ → Type 0
 IsMomentIn table pass moment = IsMomentOf (job_in table) (room_of (setting_in table)) (view pass) moment
 
-abbrev pub IsMissOf : CoreTable → Pass → ℕ → Miss → Type 0
+unfoldable pub IsMissOf : CoreTable → Pass → ℕ → Miss → Type 0
 IsMissOf table pass place miss = IsMissAt (job_in table) (room_of (setting_in table)) (view pass) place miss
 
 -- each of these passes has a seat at the table in this state

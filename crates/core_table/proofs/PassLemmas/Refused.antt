@@ -15,11 +15,13 @@ pub not_equal : (a b : ℕ) → (a == b) ≡ false → a ≢ b
 not_equal a b denied e = grind (arith, nat_tests)
 
 pub moment_told : (table : CoreTable) (pass : Pass) (moment : ℕ) → IsPassOf table pass → IsMomentOf (job_seen pass.seat.me.0) pass.seat.me.0.room pass.seat.me.0 moment → IsMomentIn table pass moment
+unfolding IsMomentIn
 moment_told table pass moment p h =
     subst (λ (job : CoreJob). IsMomentOf job (room_of table.setting) pass.seat.me.0 moment) p.9
     (subst (λ (room : ℕ). IsMomentOf (job_seen pass.seat.me.0) room pass.seat.me.0 moment) p.6 h)
 
 pub miss_told : (table : CoreTable) (pass : Pass) (place at : ℕ) (miss : Miss) → IsPassOf table pass → place ≡ at → IsMissAt (job_seen pass.seat.me.0) pass.seat.me.0.room pass.seat.me.0 place miss → IsMissOf table pass at miss
+unfolding IsMissOf
 miss_told table pass place at miss p is h =
     subst (λ (place : ℕ). IsMissOf table pass place miss) is
     (subst (λ (job : CoreJob). IsMissAt job (room_of table.setting) pass.seat.me.0 place miss) p.9

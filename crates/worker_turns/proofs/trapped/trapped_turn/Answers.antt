@@ -1,13 +1,14 @@
-use Rattle.std.proofs.Common.{rules, ◌≡◌, ap, ◌∙◌, subst}
+use Rattle.std.proofs.Common.{rules, ◌≡◌, ap, ◌∙◌, subst, inr}
 use Rattle.table_rule.specs.declared.view.PassView.{PassView}
 use Rattle.table_rule.specs.Passes.{refusing_win, refusing_leave, winning}
 use Rattle.core_table.specs.Passes.{job_in, pass_view}
 use Rattle.table_rule.specs.Shows.{IsPrefix}
 use Rattle.worker_crew.specs.Workers.{WorkerView, me_seen}
 use Rattle.worker_turns.specs.Pieces.{IsOwnPiece, IsOtherPiece}
+use Rattle.worker_turns.specs.declared.attempts.PieceAttempt.{PieceAttempt}
 use Rattle.worker_turns.specs.declared.trapped.Trapped.TheVariants.{Piece, Launched, Nothing}
 use Rattle.worker_turns.specs.Launches.{Launches}
-use Rattle.worker_turns.specs.Trapped.{IsTrappedTurn, won_after}
+use Rattle.worker_turns.specs.Trapped.{IsTrappedTurn, refused_both, won_after}
 use Rattle.worker_turns.proofs.MeaningLemmas.Stays.{call_after, trapped_helps}
 use Rattle.worker_turns.proofs.MeaningLemmas.Events.{trapped_looked}
 use Rattle.worker_turns.proofs.PieceLemmas.Working.{own_works, other_works}
@@ -38,17 +39,24 @@ returns g c =
 
 pub returns-in-Ran-other : goal.returns-in-Ran-other
 returns-in-Ran-other g c =
+    let workers = (job_in c.args.crew.now.table).workers in
     let old = me_seen c.args.me.now in
-    let path : IsTrappedTurn (job_in c.args.crew.now.table).workers Piece old (me_seen c.steal_other_piece.new.me) = search rules in record {
+    let tried = me_seen c.pop_own_piece.new.me in
+    let new = me_seen c.steal_other_piece.new.me in
+    let own = subst (λ (p : PassView). IsOwnPiece c.in_ok-own.own (record old { pass = p }) tried) (own_of _ _ (c.stopped.ensures.unset c.if-stopped.false).2) c.in_ok-own.ensures.path in
+    let refused : pass_view c.win.new.pass ≡ refusing_win (refusing_leave (pass_view c.pop_own_piece.new.me.pass)) = search rules in
+    let other = subst (λ (p : PassView). IsOtherPiece c.in_ok-other.other (record tried { pass = p }) new) refused c.in_ok-other.ensures.path in
+    let path : IsTrappedTurn workers Piece old new =
+    inr (c.in_ok-own.own, c.in-Ran-other.field-0, tried, search rules, own, subst (λ (t : PieceAttempt). IsOtherPiece t (refused_both tried) new) c.in-Ran-other.is other) in record {
       pass = search rules;
       me = search rules;
       path = path;
       own = tt;
-      looked = trapped_looked (job_in c.args.crew.now.table).workers Piece old (me_seen c.steal_other_piece.new.me) path;
-      stays = (call_after (job_in c.args.crew.now.table).workers Piece old (me_seen c.steal_other_piece.new.me) c.requires.trapped path).same;
+      looked = trapped_looked workers Piece old new path;
+      stays = (call_after workers Piece old new c.requires.trapped path).same;
       free = search rules;
       core = search rules;
-      helps = search rules;
+      helps = trapped_helps workers Piece old new path;
       stopped = search rules;
     }
 

@@ -1,12 +1,13 @@
 -- The command line: one word, the file of a report, which may be standard input.
-use Rattle.std.specs.Prelude.{ℕ, Bool, IsTrue, if◌then◌else◌, List, [], ◌∷◌, map, Option, None, Some, string_bytes}
+use Rattle.std.specs.Prelude.{ℕ, Bool, ◌||◌, IsTrue, if◌then◌else◌, nat_eq, List, [], ◌∷◌, map, Option, None, Some, string_bytes, codes}
+use Rattle.std.specs.List.{starts_with}
 use Rattle.std.specs.Str.{bytes_eq}
 use Rattle.std.specs.declared.string.String.{String}
 use Rattle.std.specs.declared.alloc.Global.{Global}
 
--- the file that a word names, if the word is not empty; `-` names standard input
+-- the file that a word names, if the word is not empty and does not begin with `--`; `-` names standard input
 abbrev pub named_file : List ℕ → Option (List ℕ)
-named_file file = if bytes_eq file [] then None else Some file
+named_file file = if bytes_eq file [] || starts_with nat_eq file (codes "--") then None else Some file
 
 -- the file that the words name, if there is one word
 abbrev pub file_of : List (List ℕ) → Option (List ℕ)

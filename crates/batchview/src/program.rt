@@ -47,8 +47,8 @@ fn draw_file<I: Shelf, O: Sink, E: Sink>(
 
 /// Runs the program on its words, over any shelf and sinks.
 ///
-/// The one word names the file of a report, lawful or not. Its picture is written once, on `out`, or the line that says
-/// why there is none on `err`. Memory may run out at any step.
+/// The one word names the file of a report, lawful or not; one that begins with `--` names none. Its picture is written
+/// once, on `out`, or the line that says why there is none on `err`. Memory may run out at any step.
 ///
 /// Time: linear in the report.
 pub fn batchview<I: Shelf, O: Sink, E: Sink>(

@@ -19,7 +19,7 @@ pub enum ViewRefusal {
 pub enum ViewStatus {
     /// The picture was written.
     Done,
-    /// The words are not one file.
+    /// The words do not name one file.
     Usage,
     /// The file could not be opened or read to its end.
     ReadFault,

@@ -10,7 +10,7 @@ pub(crate) struct View<'a> {
     pub(crate) file: &'a str,
 }
 
-/// The file that the words name, if they are one word that is not empty.
+/// The file that the words name, if they are one word that is not empty and does not begin with `--`.
 pub(crate) fn view_in(words: &[String]) -> Option<View<'_>>
     ensures { option_map file_in result ≡ file_of (spelled words.now) }
 {
@@ -18,7 +18,7 @@ pub(crate) fn view_in(words: &[String]) -> Option<View<'_>>
         return None;
     };
     let file = file.as_str();
-    if file.is_empty() {
+    if file.is_empty() || file.as_bytes().starts_with(b"--") {
         return None;
     }
     Some(View { file })

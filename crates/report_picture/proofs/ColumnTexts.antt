@@ -1,6 +1,6 @@
 -- The text of the drawing with columns, part by part.
 use Rattle.std.proofs.Common.{ℕ, ◌≡◌, ◌+◌, ◌*◌, List, [], ◌∷◌, ◌++◌, length, refl, ap, sym, ◌∙◌, append_assoc}
-use Rattle.std.specs.Prelude.{codes}
+use Rattle.std.specs.Prelude.{codes, nat_lt}
 use Rattle.std.specs.Fmt.{decimal}
 use Rattle.std.specs.List.{range_with_len}
 use Rattle.batch_history.specs.Book.{flat}
@@ -14,7 +14,7 @@ use Rattle.report_picture.specs.Drawing.{draw_words, draw_lane, draw_tick, draw_
 use Rattle.report_picture.specs.Columns.{column_left, draw_share, draw_edges, draw_keys}
 use Rattle.report_picture.specs.Code.Texts.{rect_front, words_front, tick_text, lanes_text, sheet_front, caption_text, note_text, bar_end, bar_text, bars_text, plain_text, title_text, parts_text, share_text, shares_text, edges_text, key_front, keys_text, columns_text}
 use Rattle.report_picture.specs.Picture.{caption, column_drawing}
-use Rattle.report_picture.proofs.Written.{each_drawn, markup_behind, rect_behind, words_behind, plain_drawn, sheet_is, caption_drawn, tick_drawn, lanes_drawn}
+use Rattle.report_picture.proofs.Written.{each_drawn, kept_drawn, markup_behind, rect_behind, words_behind, plain_drawn, sheet_is, caption_drawn, tick_drawn, lanes_drawn}
 
 note_drawn : (foot : ℕ) (behind : Markup) (rest : List ℕ)
     → markup_onto (draw_words 16 (foot + 84) (Say (codes "batches by their number of calls (past 2000 leaves no box is drawn for a leaf)") ∷ []) behind) rest ≡ note_text foot ++ markup_onto behind rest
@@ -51,11 +51,11 @@ shares_drawn width shares behind rest =
     each_drawn (draw_share width) (share_text width)
     (λ share b r. markup_behind (draw_share width share Nothing) [] (markup_onto b r) ∙ ap (λ t. t ++ markup_onto b r) (sym (share_is width share))) shares behind rest
 
-edges_drawn : (foot width : ℕ) (behind : Markup) (rest : List ℕ) → markup_onto (draw_edges foot width behind) rest ≡ edges_text foot width ++ markup_onto behind rest
+edges_drawn : (foot width leaves : ℕ) (behind : Markup) (rest : List ℕ) → markup_onto (draw_edges foot width leaves behind) rest ≡ edges_text foot width leaves ++ markup_onto behind rest
 unfolding edges_text
-edges_drawn foot width behind rest =
-    each_drawn (λ mark. draw_tick (column_left (15 * mark)) foot (15 * mark * width)) (λ mark. tick_text (column_left (15 * mark)) foot (15 * mark * width))
-    (λ mark b r. tick_drawn (column_left (15 * mark)) foot (15 * mark * width) b r) (range_with_len 0 8) behind rest
+edges_drawn foot width leaves behind rest =
+    kept_drawn (λ column. draw_tick (column_left column) foot (column * width)) (λ column. tick_text (column_left column) foot (column * width))
+    (λ column b r. tick_drawn (column_left column) foot (column * width) b r) (λ column. nat_lt (column * width) (2 * leaves)) (λ mark. 15 * mark) (range_with_len 0 8) behind rest
 
 keys_are : (foot width : ℕ) → keys_text foot width ≡ markup_onto (draw_keys foot width Nothing) []
 unfolding rect_front words_front plain_text key_front keys_text
@@ -78,11 +78,12 @@ columns_are report =
     let m5 : Markup = draw_keys foot width m6 in
     let m4 : Markup = each (draw_share width) (shares_of report) m5 in
     let m3 : Markup = each (draw_lane 1056) (range_with_len 0 report.workers) m4 in
-    let m2 : Markup = draw_edges foot width m3 in
+    let leaves = length report.rows in
+    let m2 : Markup = draw_edges foot width leaves m3 in
     sheet_is 1080 (foot + 752) (draw_words 16 28 (caption report) m2)
     ∙ ap (λ t. sheet_front 1080 (foot + 752) ++ t) (caption_drawn report m2 end
-    ∙ ap (λ t. captioned ++ t) (edges_drawn foot width m3 end
-    ∙ ap (λ t. edges_text foot width ++ t) (lanes_drawn 1056 report.workers m4 end
+    ∙ ap (λ t. captioned ++ t) (edges_drawn foot width leaves m3 end
+    ∙ ap (λ t. edges_text foot width leaves ++ t) (lanes_drawn 1056 report.workers m4 end
     ∙ ap (λ t. lanes_text 1056 report.workers ++ t) (shares_drawn width (shares_of report) m5 end
     ∙ ap (λ t. shares_text width (shares_of report) ++ t) (keys_drawn foot width m6 end
     ∙ ap (λ t. keys_text foot width ++ t) (note_drawn foot m7 end

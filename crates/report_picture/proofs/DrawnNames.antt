@@ -1,5 +1,5 @@
 -- The attributes of each element of a drawing have different names.
-use Rattle.std.proofs.Common.{ℕ, ◌+◌, ◌*◌, ◌/◌, Bool, true, false, List, [], ◌∷◌, length, refl}
+use Rattle.std.proofs.Common.{ℕ, ◌+◌, ◌*◌, Bool, true, false, List, [], ◌∷◌, length, refl}
 use Rattle.std.specs.Prelude.{codes, if◌then◌else◌}
 use Rattle.std.specs.List.{range_with_len}
 use Rattle.batch_history.specs.declared.batch.Entry.{Entry}
@@ -8,9 +8,9 @@ use Rattle.report_shares.specs.Shares.{width_of, shares_of}
 use Rattle.report_shares.specs.declared.share.Share.{Share}
 use Rattle.report_picture.specs.Markup.{Say, Number, Markup, Nothing, each}
 use Rattle.report_picture.specs.Names.{NamesDiffer}
-use Rattle.report_picture.specs.Boxes.{lane_top, span_of, scale_of, across, Box, boxes_of, Bracket, brackets_of, sized}
+use Rattle.report_picture.specs.Boxes.{lane_top, span_of, scale_of, across, marks_of, Box, boxes_of, Bracket, brackets_of, sized}
 use Rattle.report_picture.specs.Drawing.{draw_box, draw_words, draw_lane, draw_tick, draw_calls, draw_bracket, draw_legend, draw_bar, draw_bars}
-use Rattle.report_picture.specs.Columns.{column_left, draw_share, draw_keys}
+use Rattle.report_picture.specs.Columns.{column_left, edges_of, draw_share, draw_keys}
 use Rattle.report_picture.specs.Picture.{box_drawing, column_drawing, has_boxes, drawing, draw_boxes}
 
 each_differs : {A : Type 0} (draw : A → Markup → Markup) → ((x : A) (behind : Markup) → NamesDiffer behind → NamesDiffer (draw x behind))
@@ -56,7 +56,6 @@ boxes_differ : (names : List (List ℕ)) (span scale : ℕ) (report : Report) �
 boxes_differ names span scale report =
     let foot = lane_top report.workers in
     let right = across scale span in
-    let tick : ℕ → ℕ = λ mark. mark * (span / 8 + 1) in
     let legend : Markup = draw_legend foot Nothing in
     let brackets : Markup = each (draw_bracket names scale foot) (brackets_of report) legend in
     let named : Markup = draw_words 16 (foot + 59) (Say (codes "batches") ∷ []) brackets in
@@ -72,7 +71,7 @@ boxes_differ names span scale report =
         (
           refl,
           tt,
-          each_differs (λ mark. draw_tick (across scale (tick mark)) foot (tick mark)) (λ mark. tick_differs (across scale (tick mark)) foot (tick mark)) (range_with_len 0 8) lanes j,
+          each_differs (λ tick. draw_tick (across scale tick) foot tick) (λ tick. tick_differs (across scale tick) foot tick) (marks_of (length report.rows)) lanes j,
         ),
       ),
       tt,
@@ -101,7 +100,8 @@ columns_differ report =
         (
           refl,
           tt,
-          each_differs (λ mark. draw_tick (column_left (15 * mark)) foot (15 * mark * width)) (λ mark. tick_differs (column_left (15 * mark)) foot (15 * mark * width)) (range_with_len 0 8) lanes k,
+          each_differs (λ column. draw_tick (column_left column) foot (column * width)) (λ column. tick_differs (column_left column) foot (column * width))
+              (edges_of width (length report.rows)) lanes k,
         ),
       ),
       tt,

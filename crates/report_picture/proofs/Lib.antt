@@ -2,6 +2,7 @@ pub mod BoxLaws
 pub mod BracketLaws
 pub mod Choice
 pub mod Finding
+pub mod Marks
 pub mod Ranges
 pub mod DrawnNames
 pub mod WellFormed

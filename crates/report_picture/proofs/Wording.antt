@@ -124,10 +124,10 @@ drawn workers leaves called batches boxes brackets shares bars =
     let width = width_of leaves in
     let head = Say (codes "workers ") ∷ Number workers ∷ Say (codes " leaves ") ∷ Number leaves ∷ Say (codes " calls ") ∷ Number called ∷ Say (codes " batches ") ∷ Number batches ∷ [] in
     if nat_le leaves 2000 && nat_le called 2000
-    then sheet (right + 24) (foot + 140) (draw_words 16 28 head (draw_ticks scale foot span (each (draw_lane right) (range_with_len 0 workers)
+    then sheet (right + 24) (foot + 140) (draw_words 16 28 head (draw_ticks scale foot leaves (each (draw_lane right) (range_with_len 0 workers)
     (Element Group (record { key = Transform; value = Say (codes "translate(96 0) scale(") ∷ Number scale ∷ Say (codes " 1)") ∷ [] } ∷ []) (each draw_box boxes Nothing)
     (draw_words 16 (foot + 59) (Say (codes "batches") ∷ []) brackets)))))
-    else sheet 1080 (foot + 752) (draw_words 16 28 head (draw_edges foot width (each (draw_lane 1056) (range_with_len 0 workers) (each (draw_share width) shares (draw_keys foot width
+    else sheet 1080 (foot + 752) (draw_words 16 28 head (draw_edges foot width leaves (each (draw_lane 1056) (range_with_len 0 workers) (each (draw_share width) shares (draw_keys foot width
     (draw_words 16 (foot + 84) (Say (codes "batches by their number of calls (past 2000 leaves no box is drawn for a leaf)") ∷ []) bars))))))
 
 module _ (names : List (List ℕ)) where

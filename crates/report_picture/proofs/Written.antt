@@ -1,8 +1,8 @@
 -- The text of markup, part by part.
 use Rattle.std.proofs.Common.{ℕ, ◌≡◌, ◌+◌, ◌*◌, ◌/◌, ◌-◌, List, [], ◌∷◌, ◌++◌, length, map, refl, ap, sym, ◌∙◌, append_assoc, Option, Some, None, Bool, true, false}
-use Rattle.std.specs.Prelude.{codes, nat_le, if◌then◌else◌}
+use Rattle.std.specs.Prelude.{codes, nat_le, nat_lt, if◌then◌else◌}
 use Rattle.std.specs.Fmt.{decimal}
-use Rattle.std.specs.List.{flat_map, range_with_len}
+use Rattle.std.specs.List.{filter, flat_map, range_with_len}
 use Rattle.seq_objects.specs.Words.{op_words}
 use Rattle.batch_history.specs.Book.{flat}
 use Rattle.batch_history.specs.Places.{place_of}
@@ -11,7 +11,7 @@ use Rattle.batch_history.specs.declared.place.Place.{Place}
 use Rattle.batch_history.specs.declared.row.Row.{Row}
 use Rattle.batch_history.specs.declared.report.Report.{Report}
 use Rattle.report_picture.specs.Markup.{Part, Say, Number, Attribute, Markup, Nothing, Words, Element, escaped, key_name, tag_name, parts_onto, attributes_onto, markup_onto, text_of, each}
-use Rattle.report_picture.specs.Boxes.{lane_top, across, batch_colour, box_for, box_of, Bracket, brackets_of}
+use Rattle.report_picture.specs.Boxes.{lane_top, span_of, across, batch_colour, box_for, box_of, Bracket, brackets_of}
 use Rattle.report_picture.specs.Drawing.{draw_box, draw_line, draw_words, draw_lane, draw_tick, draw_ticks, draw_rect, call_title, draw_calls, draw_number, draw_bracket, draw_legend}
 use Rattle.report_picture.specs.Code.Texts.{rect_front, ticks_text, work_text, called_text, box_text, words_front, light_end, lane_text, tick_text, call_front, served_text, call_text, calls_text, number_text, line_text, under_text, bracket_line, bracket_text, legend_text, lanes_text, marks_text, boxes_text, group_text, strip_name, brackets_text, sheet_start, sheet_style, sheet_top, sheet_front, caption_text, drawing_text}
 use Rattle.report_picture.specs.Picture.{sheet, caption, draw_boxes, box_drawing}
@@ -24,6 +24,20 @@ each_drawn draw line one [] behind rest = refl
 each_drawn draw line one (x ∷ xs) behind rest =
     one x (each draw xs behind) rest
     ∙ (ap (λ t. line x ++ t) (each_drawn draw line one xs behind rest) ∙ sym (append_assoc (line x) (flat_map line xs) (markup_onto behind rest)))
+
+-- what is drawn of those of several numbers that are kept is the text of each of these, one behind another
+module _ (draw : ℕ → Markup → Markup) (line : ℕ → List ℕ) (one : (n : ℕ) (behind : Markup) (rest : List ℕ) → markup_onto (draw n behind) rest ≡ line n ++ markup_onto behind rest) where
+  one_kept : (kept : Bool) (n : ℕ) (ns more : List ℕ) (behind : Markup) (rest : List ℕ) → markup_onto (each draw ns behind) rest ≡ more ++ markup_onto behind rest
+      → markup_onto (each draw (if kept then n ∷ ns else ns) behind) rest ≡ ((if kept then line n else []) ++ more) ++ markup_onto behind rest
+  one_kept true n ns more behind rest is = one n (each draw ns behind) rest ∙ (ap (λ t. line n ++ t) is ∙ sym (append_assoc (line n) more (markup_onto behind rest)))
+  one_kept false n ns more behind rest is = is
+
+  pub kept_drawn : (keeps : ℕ → Bool) (number : ℕ → ℕ) (marks : List ℕ) (behind : Markup) (rest : List ℕ)
+      → markup_onto (each draw (filter keeps (map number marks)) behind) rest ≡ flat_map (λ mark. if keeps (number mark) then line (number mark) else []) marks ++ markup_onto behind rest
+  kept_drawn keeps number [] behind rest = refl
+  kept_drawn keeps number (mark ∷ marks) behind rest =
+      one_kept (keeps (number mark)) (number mark) (filter keeps (map number marks)) (flat_map (λ m. if keeps (number m) then line (number m) else []) marks) behind rest
+      (kept_drawn keeps number marks behind rest)
 
 pub parts_behind : (parts : List Part) (front rest : List ℕ) → parts_onto parts (front ++ rest) ≡ parts_onto parts front ++ rest
 parts_behind [] front rest = refl
@@ -148,12 +162,11 @@ strip_drawn : (foot : ℕ) (behind : Markup) (rest : List ℕ) → markup_onto (
 unfolding strip_name
 strip_drawn foot behind rest = plain_drawn 16 (foot + 59) (Say (codes "batches") ∷ []) behind rest
 
-ticks_drawn : (scale foot span : ℕ) (behind : Markup) (rest : List ℕ) → markup_onto (draw_ticks scale foot span behind) rest ≡ marks_text scale foot span ++ markup_onto behind rest
+ticks_drawn : (scale foot leaves : ℕ) (behind : Markup) (rest : List ℕ) → markup_onto (draw_ticks scale foot leaves behind) rest ≡ marks_text scale foot leaves ++ markup_onto behind rest
 unfolding marks_text
-ticks_drawn scale foot span behind rest =
-    each_drawn (λ mark. draw_tick (across scale (mark * (span / 8 + 1))) foot (mark * (span / 8 + 1)))
-    (λ mark. tick_text (across scale (mark * (span / 8 + 1))) foot (mark * (span / 8 + 1)))
-    (λ mark b r. tick_drawn (across scale (mark * (span / 8 + 1))) foot (mark * (span / 8 + 1)) b r) (range_with_len 0 8) behind rest
+ticks_drawn scale foot leaves behind rest =
+    kept_drawn (λ tick. draw_tick (across scale tick) foot tick) (λ tick. tick_text (across scale tick) foot tick) (λ tick b r. tick_drawn (across scale tick) foot tick b r)
+    (λ tick. nat_lt tick (2 * leaves)) (λ mark. mark * (span_of leaves / 8 + 1)) (range_with_len 0 8) behind rest
 
 pub lanes_drawn : (right workers : ℕ) (behind : Markup) (rest : List ℕ) → markup_onto (each (draw_lane right) (range_with_len 0 workers) behind) rest ≡ lanes_text right workers ++ markup_onto behind rest
 unfolding lanes_text
@@ -244,13 +257,14 @@ module _ (names : List (List ℕ)) where
       let m6 : Markup = draw_words 16 (foot + 59) (Say (codes "batches") ∷ []) m7 in
       let m5 : Markup = draw_boxes names scale report m6 in
       let m4 : Markup = each (draw_lane right) (range_with_len 0 report.workers) m5 in
-      let m3 : Markup = draw_ticks scale foot span m4 in
+      let leaves = length report.rows in
+      let m3 : Markup = draw_ticks scale foot leaves m4 in
       let m2 : Markup = draw_words 16 28 (caption report) m3 in
       let captioned = caption_text report.workers (length report.rows) (length (flat report.history)) (length report.history) in
       sheet_is (right + 24) (foot + 140) m2
       ∙ ap (λ t. sheet_front (right + 24) (foot + 140) ++ t) (caption_drawn report m3 end
-      ∙ ap (λ t. captioned ++ t) (ticks_drawn scale foot span m4 end
-      ∙ ap (λ t. marks_text scale foot span ++ t) (lanes_drawn right report.workers m5 end
+      ∙ ap (λ t. captioned ++ t) (ticks_drawn scale foot leaves m4 end
+      ∙ ap (λ t. marks_text scale foot leaves ++ t) (lanes_drawn right report.workers m5 end
       ∙ ap (λ t. lanes_text right report.workers ++ t) (group_drawn scale report m6 end
       ∙ ap (λ t. group_text names scale report.history report.rows ++ t) (strip_drawn foot m7 end
       ∙ ap (λ t. strip_name foot ++ t) (brackets_drawn scale foot (brackets_of report) m8 end

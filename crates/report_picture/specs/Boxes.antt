@@ -1,6 +1,7 @@
 -- The boxes of the rows, the brackets of the batches, and where they stand. All lengths are in pixels, but that a box
 -- lies along its lane in ticks. The names are those of the objects with the numbers 1, 2, and so on.
-use Rattle.std.specs.Prelude.{ℕ, ◌+◌, ◌*◌, ◌-◌, ◌/◌, ◌%◌, ◌==◌, if◌then◌else◌, List, [], ◌∷◌, map, length, codes, Option, None, Some}
+use Rattle.std.specs.Prelude.{ℕ, ◌+◌, ◌*◌, ◌-◌, ◌/◌, ◌%◌, ◌==◌, if◌then◌else◌, nat_lt, List, [], ◌∷◌, map, length, codes, Option, None, Some}
+use Rattle.std.specs.List.{filter, range_with_len}
 use Rattle.seq_objects.specs.Words.{op_words}
 use Rattle.batch_history.specs.Places.{place_of}
 use Rattle.batch_history.specs.declared.batch.Entry.{Entry}
@@ -24,6 +25,11 @@ scale_of span = 1 + 960 / span
 -- the place of a tick from the left, where a tick takes `scale` pixels
 abbrev pub across : ℕ → ℕ → ℕ
 across scale tick = 96 + scale * tick
+
+-- the ticks that are numbered where there are this many leaves, each of which has two: at most 8, at equal distances,
+-- from the first one on, and none past the last
+abbrev pub marks_of : ℕ → List ℕ
+marks_of leaves = filter (λ tick. nat_lt tick (2 * leaves)) (map (λ mark. mark * (span_of leaves / 8 + 1)) (range_with_len 0 8))
 
 -- one of five colours, which are told apart without red and green: blue, vermilion, green, wine and brown
 abbrev pub shade : ℕ → List ℕ

@@ -1,6 +1,6 @@
 -- How what each worker does in each column of ticks is drawn.
-use Rattle.std.specs.Prelude.{ℕ, ◌+◌, ◌*◌, ◌-◌, ◌/◌, min, List, [], ◌∷◌, codes}
-use Rattle.std.specs.List.{range_with_len}
+use Rattle.std.specs.Prelude.{ℕ, ◌+◌, ◌*◌, ◌-◌, ◌/◌, min, nat_lt, List, [], ◌∷◌, map, codes}
+use Rattle.std.specs.List.{filter, range_with_len}
 use Rattle.report_shares.specs.declared.share.Share.{Share}
 use Rattle.report_picture.specs.Markup.{Part, Say, Number, Group, Title, Markup, Nothing, Words, Element, each}
 use Rattle.report_picture.specs.Boxes.{lane_top, batch_colour}
@@ -35,9 +35,14 @@ draw_share width share behind =
     (draw_plain left (foot - work) 8 work (codes "#6e7781")
     (draw_plain left (foot - work - calls) 8 calls (batch_colour 0) Nothing)))) behind
 
--- the first ticks of 8 columns at equal distances, where columns are `width` ticks wide
-abbrev pub draw_edges : ℕ → ℕ → Markup → Markup
-draw_edges foot width behind = each (λ mark. draw_tick (column_left (15 * mark)) foot (15 * mark * width)) (range_with_len 0 8) behind
+-- the columns whose first ticks are numbered, where columns are `width` ticks wide and there are this many leaves: at
+-- most 8, at equal distances, and none that begins past the last tick
+abbrev pub edges_of : ℕ → ℕ → List ℕ
+edges_of width leaves = filter (λ column. nat_lt (column * width) (2 * leaves)) (map (λ mark. 15 * mark) (range_with_len 0 8))
+
+-- the numbers of these ticks
+abbrev pub draw_edges : ℕ → ℕ → ℕ → Markup → Markup
+draw_edges foot width leaves behind = each (λ column. draw_tick (column_left column) foot (column * width)) (edges_of width leaves) behind
 
 -- a colour, and what it is
 abbrev pub draw_key : ℕ → ℕ → List ℕ → List Part → Markup → Markup

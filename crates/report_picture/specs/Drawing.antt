@@ -1,11 +1,11 @@
 -- How each part of the picture is drawn. Below, `scale` is the number of pixels that a tick takes, `foot` the bottom of
 -- the lanes, `names` are those of the objects, and `behind` is the markup that stands behind.
-use Rattle.std.specs.Prelude.{ℕ, ◌+◌, ◌*◌, ◌-◌, ◌/◌, List, [], ◌∷◌, length, codes, nat_le, if◌then◌else◌}
+use Rattle.std.specs.Prelude.{ℕ, ◌+◌, ◌*◌, ◌-◌, List, [], ◌∷◌, length, codes, nat_le, if◌then◌else◌}
 use Rattle.std.specs.List.{range_with_len}
 use Rattle.seq_objects.specs.Words.{op_words, reply_words}
 use Rattle.batch_history.specs.declared.batch.Entry.{Entry}
 use Rattle.report_picture.specs.Markup.{Part, Say, Number, Tag, Group, Title, Label, Rect, Path, Key, Width, Height, X, Y, Fill, Stroke, Data, Attribute, Markup, Nothing, Words, Element, each}
-use Rattle.report_picture.specs.Boxes.{lane_top, across, batch_colour, Box, Bracket, sized, bar_width}
+use Rattle.report_picture.specs.Boxes.{lane_top, across, marks_of, batch_colour, Box, Bracket, sized, bar_width}
 
 abbrev pub number : Key → ℕ → Attribute
 number key n = record { key = key; value = Number n ∷ [] }
@@ -50,10 +50,9 @@ draw_tick left foot tick behind =
     Element Group [] (draw_words left (foot + 16) (Number tick ∷ [])
     (draw_line (Say (codes "M") ∷ Number left ∷ Say (codes " 46V") ∷ Number (foot + 4) ∷ []) (codes "#d0d7de") Nothing)) behind
 
--- the ticks that are numbered, where this many are drawn: 8 at equal distances
+-- the ticks that are numbered, where there are this many leaves
 abbrev pub draw_ticks : ℕ → ℕ → ℕ → Markup → Markup
-draw_ticks scale foot span behind =
-    each (λ mark. draw_tick (across scale (mark * (span / 8 + 1))) foot (mark * (span / 8 + 1))) (range_with_len 0 8) behind
+draw_ticks scale foot leaves behind = each (λ tick. draw_tick (across scale tick) foot tick) (marks_of leaves) behind
 
 -- the title of a call: its place in the book, its leaf and its worker, its operation and its reply
 abbrev pub call_title : List (List ℕ) → ℕ → ℕ → Entry → List Part

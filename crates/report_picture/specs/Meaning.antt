@@ -1,11 +1,12 @@
 -- What boxes and brackets mean, in the words of reports.
-use Rattle.std.specs.Prelude.{◌≡◌, ◌≢◌, ℕ, ◌+◌, ◌-◌, ◌<◌, ◌≤◌, ◌⊎◌, List, length, slice_get, Some}
-use Rattle.std.specs.List.{AllZip}
+use Rattle.std.specs.Prelude.{◌≡◌, ◌≢◌, ℕ, ◌+◌, ◌-◌, ◌*◌, ◌<◌, ◌≤◌, ◌⊎◌, List, length, slice_get, Some}
+use Rattle.std.specs.List.{AllByRecursion, AllZip}
 use Rattle.batch_history.specs.Book.{flat}
 use Rattle.batch_history.specs.declared.batch.Entry.{Entry}
 use Rattle.batch_history.specs.declared.row.Row.{Row}
 use Rattle.batch_history.specs.declared.report.Report.{Report}
-use Rattle.report_picture.specs.Boxes.{lane_top, Box, boxes_of, Bracket, brackets_of}
+use Rattle.report_picture.specs.Boxes.{lane_top, marks_of, Box, boxes_of, Bracket, brackets_of}
+use Rattle.report_picture.specs.Columns.{edges_of}
 
 -- the box stands within the lane of this worker
 pub record IsInLane (worker : ℕ) (box : Box) : Type 0 where
@@ -31,6 +32,14 @@ abbrev pub KeepsApart : List (List ℕ) → Report → Type 0
 KeepsApart names report = (u v worker : ℕ) (box other : Box) → u ≢ v
     → slice_get (boxes_of names report) u ≡ Some box → slice_get (boxes_of names report) v ≡ Some other
     → IsInLane worker box → IsInLane worker other → AreApart box other
+
+-- the ticks that are numbered where there are this many leaves are ticks that these have: each leaf has two
+abbrev pub NumbersTicks : ℕ → Type 0
+NumbersTicks leaves = AllByRecursion (λ tick. tick < 2 * leaves) (marks_of leaves)
+
+-- the same of the first ticks of columns that are `width` ticks wide
+abbrev pub NumbersFirstTicks : ℕ → ℕ → Type 0
+NumbersFirstTicks width leaves = AllByRecursion (λ column. column * width < 2 * leaves) (edges_of width leaves)
 
 -- the bracket is over the call that has `serial` calls before it in the book
 pub record IsOver (bracket : Bracket) (serial : ℕ) : Type 0 where

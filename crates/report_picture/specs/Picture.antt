@@ -38,7 +38,7 @@ box_drawing names span scale report =
     let right = across scale span in
     sheet (right + 24) (foot + 140)
     (draw_words 16 28 (caption report)
-    (draw_ticks scale foot span
+    (draw_ticks scale foot (length report.rows)
     (each (draw_lane right) (range_with_len 0 report.workers)
     (draw_boxes names scale report
     (draw_words 16 (foot + 59) (Say (codes "batches") ∷ [])
@@ -53,7 +53,7 @@ column_drawing report =
     let width = width_of (length report.rows) in
     sheet 1080 (foot + 752)
     (draw_words 16 28 (caption report)
-    (draw_edges foot width
+    (draw_edges foot width (length report.rows)
     (each (draw_lane 1056) (range_with_len 0 report.workers)
     (each (draw_share width) (shares_of report)
     (draw_keys foot width

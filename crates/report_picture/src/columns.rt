@@ -4,7 +4,7 @@ ghost use Rattle.report_picture.specs.Columns.{column_left, height_in};
 ghost use Rattle.report_picture.specs.Code.Texts.{plain_text, title_text, parts_text, share_text, shares_text, edges_text, key_front, keys_text};
 
 use crate::bytes::{push_number, push_text};
-use crate::frame::push_tick;
+use crate::frame::push_mark;
 use crate::shapes::{product, push_rect, push_words};
 use report_shares::Share;
 use std::alloc::AllocError;
@@ -114,15 +114,21 @@ pub(crate) fn push_shares(
     Ok(())
 }
 
-/// Appends the first ticks of 8 columns, where columns are `width` ticks wide.
+/// Appends the first ticks of up to 8 columns, where columns are `width` ticks wide, and there are this many leaves.
 #[tactic(auto, unfolding(crate::specs::Code::Texts::edges_text), using(crate::proofs::Ranges::flat_more))]
-pub(crate) fn push_edges(text: &mut Vec<u8>, foot: u32, width: u32) -> Result<(), AllocError>
+pub(crate) fn push_edges(
+    text: &mut Vec<u8>,
+    foot: u32,
+    width: u32,
+    leaves: u32,
+) -> Result<(), AllocError>
     requires { foot ≤ 2000 }
-    ensures { OnOk result (text.new.items ≡ text.old.items ++ edges_text foot width) }
+    ensures { OnOk result (text.new.items ≡ text.old.items ++ edges_text foot width leaves) }
 {
     for mark in 0..8 {
         let column = 15 * mark;
-        push_tick(text, column_left(column), foot, product(column, width))?;
+        let tick = product(column, width);
+        push_mark(text, column_left(column), foot, tick, product(2, leaves))?;
     }
     Ok(())
 }

@@ -1,6 +1,6 @@
 //! What stands around the boxes and the brackets.
 ghost use Rattle.std.specs.Prelude.{◌≡◌, ◌++◌, ◌+◌, ◌*◌, ◌/◌, ◌≤◌, ◌<◌, OnOk};
-ghost use Rattle.report_picture.specs.Code.Texts.{light_end, lane_text, lanes_text, tick_text, marks_text, strip_name, legend_text, sheet_start, sheet_style, sheet_top, sheet_front, caption_text};
+ghost use Rattle.report_picture.specs.Code.Texts.{light_end, lane_text, lanes_text, tick_text, mark_text, marks_text, strip_name, legend_text, sheet_start, sheet_style, sheet_top, sheet_front, caption_text};
 
 use crate::bytes::{push_number, push_text};
 use crate::shapes::{across, push_rect, push_words};
@@ -102,12 +102,7 @@ pub(crate) fn push_lanes(text: &mut Vec<u8>, right: u64, workers: u32) -> Result
 
 /// Appends a tick under the lanes, at this place from the left, and the line up from it.
 #[tactic(auto, unfolding(crate::specs::Code::Texts::tick_text))]
-pub(crate) fn push_tick(
-    text: &mut Vec<u8>,
-    left: u64,
-    foot: u32,
-    tick: u64,
-) -> Result<(), AllocError>
+fn push_tick(text: &mut Vec<u8>, left: u64, foot: u32, tick: u64) -> Result<(), AllocError>
     requires foot { foot ≤ 2000 }
     ensures { OnOk result (text.new.items ≡ text.old.items ++ tick_text left foot tick) }
 {
@@ -119,21 +114,45 @@ pub(crate) fn push_tick(
     push_light_end(text)
 }
 
-/// Appends the ticks that are numbered, where `span` are drawn.
+/// Appends a tick as `push_tick` does, if it is below `ticks`.
+pub(crate) fn push_mark(
+    text: &mut Vec<u8>,
+    left: u64,
+    foot: u32,
+    tick: u64,
+    ticks: u64,
+) -> Result<(), AllocError>
+    requires foot { foot ≤ 2000 }
+    ensures { OnOk result (text.new.items ≡ text.old.items ++ mark_text left foot tick ticks) }
+{
+    if tick < ticks {
+        push_tick(text, left, foot, tick)?;
+    }
+    Ok(())
+}
+
+/// Appends the ticks that are numbered, where there are this many leaves.
 #[tactic(auto, unfolding(crate::specs::Code::Texts::marks_text), using(crate::proofs::Ranges::flat_more))]
 pub(crate) fn push_ticks(
     text: &mut Vec<u8>,
     scale: u32,
     foot: u32,
-    span: u32,
+    leaves: u32,
 ) -> Result<(), AllocError>
     requires foot { foot ≤ 2000 }
-    requires span { span ≤ 5000 }
-    ensures { OnOk result (text.new.items ≡ text.old.items ++ marks_text scale foot span) }
+    requires leaves { leaves ≤ 2000 }
+    ensures { OnOk result (text.new.items ≡ text.old.items ++ marks_text scale foot leaves) }
 {
-    let step = span / 8 + 1;
+    let step = (2 * leaves + 1) / 8 + 1;
     for mark in 0..8 {
-        push_tick(text, across(scale, mark * step), foot, (mark * step) as u64)?;
+        let tick = mark * step;
+        push_mark(
+            text,
+            across(scale, tick),
+            foot,
+            tick as u64,
+            (2 * leaves) as u64,
+        )?;
     }
     Ok(())
 }

@@ -8,7 +8,7 @@ ghost use Rattle.report_picture.specs.Markup.{Markup, text_of};
 ghost use Rattle.report_picture.specs.WellFormed.{AreContents};
 ghost use Rattle.report_picture.specs.Names.{NamesDiffer};
 ghost use Rattle.report_picture.specs.Picture.{picture};
-ghost use Rattle.report_picture.specs.Meaning.{HasBoxes, KeepsApart, HasBrackets, KeepsBrackets};
+ghost use Rattle.report_picture.specs.Meaning.{HasBoxes, KeepsApart, NumbersTicks, NumbersFirstTicks, HasBrackets, KeepsBrackets};
 
 use report_reader::laws::texts_have_one_wording;
 
@@ -21,6 +21,12 @@ pub fn rows_have_one_box_each()
 pub fn lawful_boxes_are_apart()
     ensures { (job : JobValue) (workers : ℕ) (names : List (List ℕ)) (report : Report)
         → Lawful job workers report → KeepsApart names report }
+{}
+
+/// No tick is numbered that the leaves do not have, beside boxes and beside columns.
+pub fn numbered_ticks_are_of_leaves()
+    ensures boxes { (leaves : ℕ) → NumbersTicks leaves }
+    ensures columns { (width leaves : ℕ) → NumbersFirstTicks width leaves }
 {}
 
 /// Each entry stands under exactly one bracket, that of its batch, at its own place.

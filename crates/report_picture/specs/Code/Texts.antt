@@ -1,5 +1,5 @@
 -- The text of each part of the picture, in the pieces that the code writes. The names are those of the objects.
-use Rattle.std.specs.Prelude.{ℕ, ◌+◌, ◌*◌, ◌-◌, ◌/◌, List, [], ◌∷◌, ◌++◌, length, codes, nat_le, if◌then◌else◌, Option, None, Some}
+use Rattle.std.specs.Prelude.{ℕ, ◌+◌, ◌*◌, ◌-◌, ◌/◌, List, [], ◌∷◌, ◌++◌, length, codes, nat_le, nat_lt, if◌then◌else◌, Option, None, Some}
 use Rattle.std.specs.List.{flat_map, range_with_len}
 use Rattle.std.specs.Fmt.{decimal}
 use Rattle.seq_objects.specs.Words.{op_words, reply_words}
@@ -13,7 +13,7 @@ use Rattle.batch_history.specs.declared.report.Report.{Report}
 use Rattle.report_shares.specs.Shares.{width_of, shares_of}
 use Rattle.report_shares.specs.declared.share.Share.{Share}
 use Rattle.report_picture.specs.Columns.{column_left, height_in}
-use Rattle.report_picture.specs.Boxes.{lane_top, across, batch_colour, Bracket, brackets_of, sized, bar_width}
+use Rattle.report_picture.specs.Boxes.{lane_top, span_of, across, batch_colour, Bracket, brackets_of, sized, bar_width}
 
 unfoldable pub rect_front : ℕ → ℕ → ℕ → ℕ → List ℕ → List ℕ
 rect_front left top width height colour =
@@ -141,9 +141,13 @@ unfoldable pub lanes_text : ℕ → ℕ → List ℕ
 lanes_text right workers =
     flat_map (lane_text right) (range_with_len 0 workers)
 
+-- a tick that is numbered only where it is below this one
+abbrev pub mark_text : ℕ → ℕ → ℕ → ℕ → List ℕ
+mark_text left foot tick ticks = if nat_lt tick ticks then tick_text left foot tick else []
+
 unfoldable pub marks_text : ℕ → ℕ → ℕ → List ℕ
-marks_text scale foot span =
-    flat_map (λ mark. tick_text (across scale (mark * (span / 8 + 1))) foot (mark * (span / 8 + 1))) (range_with_len 0 8)
+marks_text scale foot leaves =
+    flat_map (λ mark. mark_text (across scale (mark * (span_of leaves / 8 + 1))) foot (mark * (span_of leaves / 8 + 1)) (2 * leaves)) (range_with_len 0 8)
 
 unfoldable pub boxes_text : List (List ℕ) → List (List Entry) → List Row → List ℕ
 boxes_text names book rows =
@@ -167,7 +171,7 @@ unfoldable pub drawing_text : List (List ℕ) → ℕ → ℕ → Report → Lis
 drawing_text names span scale report =
     sheet_front (across scale span + 24) (lane_top report.workers + 140)
     ++ (caption_text report.workers (length report.rows) (length (flat report.history)) (length report.history)
-    ++ (marks_text scale (lane_top report.workers) span ++ (lanes_text (across scale span) report.workers
+    ++ (marks_text scale (lane_top report.workers) (length report.rows) ++ (lanes_text (across scale span) report.workers
     ++ (group_text names scale report.history report.rows ++ (strip_name (lane_top report.workers)
     ++ (brackets_text names scale (lane_top report.workers) (brackets_of report) ++ (legend_text (lane_top report.workers)
     ++ codes "</svg>\n")))))))
@@ -213,8 +217,9 @@ share_text width share =
 unfoldable pub shares_text : ℕ → List Share → List ℕ
 shares_text width shares = flat_map (share_text width) shares
 
-unfoldable pub edges_text : ℕ → ℕ → List ℕ
-edges_text foot width = flat_map (λ mark. tick_text (column_left (15 * mark)) foot (15 * mark * width)) (range_with_len 0 8)
+unfoldable pub edges_text : ℕ → ℕ → ℕ → List ℕ
+edges_text foot width leaves =
+    flat_map (λ mark. mark_text (column_left (15 * mark)) foot (15 * mark * width) (2 * leaves)) (range_with_len 0 8)
 
 -- a colour, and the front of what it is
 unfoldable pub key_front : ℕ → ℕ → List ℕ → List ℕ
@@ -231,7 +236,7 @@ unfoldable pub columns_text : Report → List ℕ
 columns_text report =
     sheet_front 1080 (lane_top report.workers + 752)
     ++ (caption_text report.workers (length report.rows) (length (flat report.history)) (length report.history)
-    ++ (edges_text (lane_top report.workers) (width_of (length report.rows)) ++ (lanes_text 1056 report.workers
+    ++ (edges_text (lane_top report.workers) (width_of (length report.rows)) (length report.rows) ++ (lanes_text 1056 report.workers
     ++ (shares_text (width_of (length report.rows)) (shares_of report) ++ (keys_text (lane_top report.workers) (width_of (length report.rows))
     ++ (note_text (lane_top report.workers) ++ (bars_text (lane_top report.workers + 96) report.history
     ++ codes "</svg>\n")))))))

@@ -1,5 +1,5 @@
 -- A report has no more calls and no more rows than its text has bytes.
-use Rattle.std.proofs.Common.{ℕ, ◌+◌, ◌≤◌, List, ◌++◌, length, ap, arith, length-append}
+use Rattle.std.proofs.Common.{ℕ, ◌≤◌, List, ◌++◌, length, ap, arith, length-append}
 use Rattle.std.specs.List.{flat_map}
 use Rattle.batch_history.specs.Book.{flat}
 use Rattle.batch_history.specs.Text.{head_line, book_lines, row_line}

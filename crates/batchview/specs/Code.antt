@@ -4,6 +4,7 @@ use Rattle.program_io.specs.declared.program.Stop.{Stop}
 use Rattle.program_io.specs.declared.program.Stop.TheVariants as stop
 use Rattle.program_io.specs.declared.program.End.{End}
 use Rattle.program_io.specs.declared.program.End.TheVariants.{Done, Stopped, WriteFault}
+use Rattle.report_reader.specs.Stops.{StopsAt}
 use Rattle.batchview.specs.Lines.{status_line}
 use Rattle.batchview.specs.Outcomes.{HasNoReport}
 use Rattle.batchview.specs.declared.words.View.{View}
@@ -18,7 +19,7 @@ file_in view = view.file.now
 
 -- why no picture was made of a text
 abbrev pub StopsDrawing : Stop ViewRefusal → List ℕ → Type 0
-StopsDrawing (stop.Refused NoReport) text = HasNoReport text
+StopsDrawing (stop.Refused (NoReport line)) text = HasNoReport text × StopsAt text line
 StopsDrawing stop.Memory text = Unit {0}
 StopsDrawing _ text = ⊥
 

@@ -3,6 +3,7 @@ pub use Rattle.bt_io.specs.Bytes
 pub use Rattle.bt_io.specs.Causes
 pub use Rattle.program_io.specs.Reading
 pub use Rattle.report_reader.specs.Texts
+pub use Rattle.report_reader.specs.Stops
 pub use Rattle.report_picture.specs.Picture
 pub mod Words
 pub mod Lines

@@ -1,5 +1,6 @@
 -- The line that each status has on err, and the exit code of the process.
-use Rattle.std.specs.Prelude.{ℕ, List, [], codes}
+use Rattle.std.specs.Prelude.{ℕ, List, [], Some, codes}
+use Rattle.program_io.specs.Lines.{said}
 use Rattle.program_io.specs.declared.words.WordsErr.{WordsErr}
 use Rattle.program_io.specs.declared.words.WordsErr.TheVariants.{NoText}
 use Rattle.program_io.specs.declared.words.WordsErr.TheVariants as words_err
@@ -13,7 +14,7 @@ status_line Done = []
 status_line Usage = codes "batchview: usage: batchview REPORT\n"
 status_line ReadFault = codes "batchview: read fault\n"
 status_line (Refused TooLong) = codes "batchview: report longer than 8388608 bytes\n"
-status_line (Refused NoReport) = codes "batchview: not a report\n"
+status_line (Refused (NoReport line)) = said (codes "batchview") (Some line) (codes "not a report")
 status_line WriteFault = codes "batchview: write fault\n"
 status_line Memory = codes "batchview: out of memory\n"
 

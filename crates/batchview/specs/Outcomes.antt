@@ -5,6 +5,7 @@ use Rattle.std.specs.Io.KnownBytes.{Appends, Keeps}
 use Rattle.bt_io.specs.Bytes.{AppendsFront}
 use Rattle.program_io.specs.Reading.{WasRead}
 use Rattle.report_reader.specs.Texts.{Named, HasNamedText}
+use Rattle.report_reader.specs.Stops.{StopsAt}
 use Rattle.report_picture.specs.Picture.{picture}
 use Rattle.batchview.specs.declared.status.ViewRefusal.{ViewRefusal}
 use Rattle.batchview.specs.declared.status.ViewRefusal.TheVariants.{TooLong, NoReport}
@@ -38,16 +39,18 @@ Prints Drawn _ old new = Keeps old new
 abbrev pub HasNoReport : List ℕ → Type 0
 HasNoReport text = (named : Named) → HasNamedText text named → ⊥
 
--- the bytes that were read are the text of no report
-pub record IsRefused (held : Option (List ℕ)) : Type 0 where
+-- the bytes that were read are the text of no report, and the line with this number is the first that is none of a
+-- report's behind those before it
+pub record IsRefused (held : Option (List ℕ)) (line : ℕ) : Type 0 where
   pub text : List ℕ
   pub read : WasRead 8388608 held text
   pub none : HasNoReport text
+  pub stops : StopsAt text line
 
 -- why the file is refused
 abbrev pub Refuses : Option (List ℕ) → ViewRefusal → Type 0
 Refuses held TooLong = IfSome held (λ text. 8388608 < length text)
-Refuses held NoReport = IsRefused held
+Refuses held (NoReport line) = IsRefused held line
 
 -- Why a status comes where there is a file: by the bytes held, and by whether the fault count of the shelf or of out
 -- rose.
@@ -63,13 +66,17 @@ HasCause held status.Memory ReadsFailed WritesFailed = Unit {0}
 abbrev pub IsUnlessMemory : ViewStatus → ViewStatus → Type 0
 IsUnlessMemory ended wanted = (ended ≡ wanted) ⊎ (ended ≡ status.Memory)
 
+-- the status is that no report has the bytes, or memory ran out
+abbrev pub IsNoReportUnlessMemory : ViewStatus → Type 0
+IsNoReportUnlessMemory ended = ((line : ℕ) × (ended ≡ status.Refused (NoReport line))) ⊎ (ended ≡ status.Memory)
+
 -- Which status comes where the bytes of the file are known and no read fails, and for a report no write: the one that
 -- the bytes call for, unless memory runs out.
 pub record Completes (held : Option (List ℕ)) (ended : ViewStatus) (ReadsFailed WritesFailed : Type 0) : Type 0 where
   pub too_long : (text : List ℕ) → held ≡ Some text → ¬ ReadsFailed
       → 8388608 < length text → IsUnlessMemory ended (status.Refused TooLong)
   pub no_report : (text : List ℕ) → held ≡ Some text → ¬ ReadsFailed
-      → length text ≤ 8388608 → HasNoReport text → IsUnlessMemory ended (status.Refused NoReport)
+      → length text ≤ 8388608 → HasNoReport text → IsNoReportUnlessMemory ended
   pub drawn : (text : List ℕ) (named : Named) → held ≡ Some text → ¬ ReadsFailed → ¬ WritesFailed
       → length text ≤ 8388608 → HasNamedText text named → IsUnlessMemory ended status.Done
 

@@ -9,7 +9,7 @@ use crate::words::View;
 use bt_io::{ReadErr, Shelf};
 use program_io::{End, Line, Program, Stop, read_file};
 use report_picture::picture;
-use report_reader::{ReadReportErr, read_alone};
+use report_reader::{ReadReportErr, read_alone, stops_at};
 use std::alloc::{AllocError, Global};
 
 /// The most bytes that a report's file may have.
@@ -26,7 +26,10 @@ fn draw(alloc: Global, text: &[u8]) -> Result<Vec<u8>, Stop<ViewRefusal>>
             Ok(drawn) => Ok(drawn),
             Err(AllocError) => Err(Stop::Memory),
         },
-        Err(ReadReportErr::NoReport) => Err(Stop::Refused(ViewRefusal::NoReport)),
+        Err(ReadReportErr::NoReport) => {
+            let line = stops_at(text) as u32;
+            Err(Stop::Refused(ViewRefusal::NoReport(line)))
+        }
         Err(ReadReportErr::Memory) => Err(Stop::Memory),
     }
 }

@@ -10,8 +10,8 @@ use program_io::{End, Line, Stop};
 pub enum ViewRefusal {
     /// The file has more than 8,388,608 bytes.
     TooLong,
-    /// The bytes of the file are not a report.
-    NoReport,
+    /// The bytes of the file are not a report; this is the number of the first line that is none of a report's.
+    NoReport(u32),
 }
 
 /// How a run ends.
@@ -68,7 +68,11 @@ impl ViewStatus {
             ViewStatus::Usage => says(b"usage: batchview REPORT"),
             ViewStatus::ReadFault => says(b"read fault"),
             ViewStatus::Refused(ViewRefusal::TooLong) => says(b"report longer than 8388608 bytes"),
-            ViewStatus::Refused(ViewRefusal::NoReport) => says(b"not a report"),
+            ViewStatus::Refused(ViewRefusal::NoReport(line)) => Some(Line {
+                program: b"batchview",
+                number: Some(line),
+                words: b"not a report",
+            }),
             ViewStatus::WriteFault => says(b"write fault"),
             ViewStatus::Memory => says(b"out of memory"),
         }

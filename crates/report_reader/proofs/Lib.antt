@@ -16,3 +16,5 @@ mod Jobs
 mod Noting
 mod Alike
 mod OneReport
+mod Stopping
+mod OneStop

@@ -8,4 +8,5 @@ pub use Rattle.seq_objects.specs.Objects
 pub use Rattle.seq_objects.specs.Batches
 pub mod Raw
 pub mod Texts
+pub mod Stops
 pub mod Code

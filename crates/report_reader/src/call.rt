@@ -52,7 +52,7 @@ impl Line {
 }
 
 /// The line of a call at the front of the text, the mark of the call's object, and the rest behind the line.
-fn read_line(text: &[u8]) -> Option<(Line, &[u8], &[u8])>
+pub(crate) fn read_line(text: &[u8]) -> Option<(Line, &[u8], &[u8])>
     ensures some { IfSome result (λ read. IsLineThen text.now read.0 read.1.now read.2.now) }
     ensures none { IfNone result ((line : LineOf) (mark rest : List ℕ) → IsLineThen text.now line mark rest → ⊥) }
 {

@@ -1,8 +1,9 @@
 //! The laws of reading reports, each stated as the contract of an empty function.
-ghost use Rattle.std.specs.Prelude.{◌≡◌, ℕ, List};
+ghost use Rattle.std.specs.Prelude.{◌≡◌, ◌<◌, ◌^◌, ℕ, List, [], length};
 ghost use Rattle.sp_order.specs.Jobs.{JobValue, IsJob};
 ghost use Rattle.batch_history.specs.declared.report.Report.{Report};
 ghost use Rattle.report_reader.specs.Texts.{HasText, HasNamedText, Named, AreAlike};
+ghost use Rattle.report_reader.specs.Stops.{HasHead, HasLines, StopsAt};
 
 /// No two raw reports of a job have one text.
 pub fn texts_have_one_report()
@@ -17,4 +18,12 @@ pub fn texts_have_one_wording()
         → HasNamedText text (record { names = job.names; report = report }) }
     ensures alike { (text : List ℕ) (named named' : Named)
         → HasNamedText text named → HasNamedText text named' → AreAlike named named' }
+{}
+
+/// A text stops being that of a report at one line. The text of a report is a head line and lines that follow one
+/// another, to its end.
+pub fn texts_stop_at_one_line()
+    ensures one { (text : List ℕ) (line line' : ℕ) → StopsAt text line → StopsAt text line' → line ≡ line' }
+    ensures reports { (text : List ℕ) (named : Named) → length text < 2 ^ 64 → HasNamedText text named
+        → (behind rest : List ℕ) (count : ℕ) → HasHead text behind → HasLines behind count rest → rest ≡ [] }
 {}

@@ -8,7 +8,7 @@ use batch_history::Row;
 use std::alloc::{AllocError, Global};
 
 /// The row whose line the text begins with, and the rest behind it.
-fn read_row(text: &[u8]) -> Option<(Row, &[u8])>
+pub(crate) fn read_row(text: &[u8]) -> Option<(Row, &[u8])>
     ensures some { IfSome result (λ read. IsRowThen text.now read.0 read.1.now) }
     ensures none { IfNone result ((row : Row) (rest : List ℕ) → IsRowThen text.now row rest → ⊥) }
 {

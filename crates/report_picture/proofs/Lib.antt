@@ -6,6 +6,8 @@ pub mod Marks
 pub mod Ranges
 pub mod DrawnNames
 pub mod WellFormed
+pub mod Reading
+pub mod Shown
 pub mod Wording
 pub mod Written
 pub mod ColumnTexts

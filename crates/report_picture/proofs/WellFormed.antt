@@ -1,15 +1,26 @@
 -- The text of markup is well-formed.
-use Rattle.std.proofs.Common.{ℕ, zero, suc, ◌≡◌, ◌≢◌, ◌+◌, ◌/◌, ◌%◌, ◌<◌, Bool, true, false, List, [], ◌∷◌, ◌++◌, refl, sym, subst, append_assoc, arith}
+use Rattle.std.proofs.Common.{ℕ, zero, suc, ◌≡◌, ◌≢◌, ◌+◌, ◌/◌, ◌%◌, ◌<◌, Bool, true, false, List, [], ◌∷◌, ◌++◌, map, refl, sym, ap, subst, append_assoc, arith}
 use Rattle.std.specs.Prelude.{codes, IsTrue, ◌==◌, if◌then◌else◌, nat_lt}
 use Rattle.std.specs.Fmt.{decimal, digits, digits_onto, digit_glyph}
 use Rattle.batch_history.specs.declared.report.Report.{Report}
 use Rattle.report_picture.specs.Markup.{Part, Say, Number, Tag, Svg, Group, Title, Label, Rect, Path, Key, Namespace, Version, Width, Height, ViewBox, X, Y, Transform, Fill, Stroke, Data, Family, Size, Anchor, Attribute, Markup, Nothing, Words, Element, tag_name, key_name, escaped_byte, escaped, parts_onto, attributes_onto, markup_onto, text_of}
+use Rattle.report_picture.specs.Elements.{Given, Elements, NoElements, An}
 use Rattle.report_picture.specs.WellFormed.{IsPlain, amp, lt, gt, quot, apos, AreWords, no_words, plain, named, is_name, is_new, AreAttributes, no_attributes, another, AreContents, no_contents, some_words, element}
 use Rattle.report_picture.specs.Names.{names_of, are_apart, NamesDiffer}
 use Rattle.report_picture.specs.Picture.{drawing, picture}
 use Rattle.report_picture.proofs.DrawnNames.{names_differ}
 use Rattle.report_picture.proofs.Written.{parts_behind, attributes_behind, markup_behind}
 use Rattle.std.proofs.lemmas.Bool.{and_parts}
+
+-- the attributes of markup, as they are written, and its elements
+
+abbrev pub given_in : List Attribute → List Given
+given_in list = map (λ attribute. record { name = key_name attribute.key; value = parts_onto attribute.value [] }) list
+
+abbrev pub elements_in : Markup → Elements
+elements_in Nothing = NoElements
+elements_in (Words parts behind) = elements_in behind
+elements_in (Element tag list inside behind) = An (tag_name tag) (given_in list) (elements_in inside) (elements_in behind)
 
 both_words : (first second : List ℕ) → AreWords first → AreWords second → AreWords (first ++ second)
 both_words first second no_words are = are
@@ -89,20 +100,27 @@ key_is_name Family = refl
 key_is_name Size = refl
 key_is_name Anchor = refl
 
-are_attributes : (list : List Attribute) → IsTrue (are_apart (names_of list)) → AreAttributes (names_of list) (attributes_onto list [])
+names_given : (list : List Attribute) → map (λ (given : Given). given.name) (given_in list) ≡ names_of list
+names_given [] = refl
+names_given (attribute ∷ list) = ap (λ names. key_name attribute.key ∷ names) (names_given list)
+
+are_attributes : (list : List Attribute) → IsTrue (are_apart (names_of list)) → AreAttributes (attributes_onto list []) (given_in list)
 are_attributes [] apart = no_attributes
 are_attributes (attribute ∷ list) apart =
     let differ = and_parts (is_new (key_name attribute.key) (names_of list)) (are_apart (names_of list)) apart in
     let more = codes "\"" ++ attributes_onto list [] in
     let e : parts_onto attribute.value more ≡ parts_onto attribute.value [] ++ more = parts_behind attribute.value [] more in
-    subst (λ t. AreAttributes (names_of (attribute ∷ list)) (codes " " ++ (key_name attribute.key ++ (codes "=\"" ++ t)))) (sym e)
-    (another (key_name attribute.key) (parts_onto attribute.value []) (attributes_onto list []) (names_of list) (key_is_name attribute.key) differ.0
+    let new : IsTrue (is_new (key_name attribute.key) (map (λ (given : Given). given.name) (given_in list))) =
+    subst (λ (names : List (List ℕ)). IsTrue (is_new (key_name attribute.key) names)) (sym (names_given list)) differ.0 in
+    subst (λ t. AreAttributes (codes " " ++ (key_name attribute.key ++ (codes "=\"" ++ t))) (given_in (attribute ∷ list))) (sym e)
+    (another (key_name attribute.key) (parts_onto attribute.value []) (attributes_onto list []) (given_in list) (key_is_name attribute.key) new
     (parts_words attribute.value) (are_attributes list differ.1))
 
-pub are_contents : (markup : Markup) → NamesDiffer markup → AreContents (markup_onto markup [])
+pub are_contents : (markup : Markup) → NamesDiffer markup → AreContents (markup_onto markup []) (elements_in markup)
 are_contents Nothing differ = no_contents
 are_contents (Words parts behind) differ =
-    subst AreContents (sym (parts_behind parts [] (markup_onto behind []))) (some_words (parts_onto parts []) (markup_onto behind []) (parts_words parts) (are_contents behind differ))
+    subst (λ t. AreContents t (elements_in behind)) (sym (parts_behind parts [] (markup_onto behind [])))
+    (some_words (parts_onto parts []) (markup_onto behind []) (elements_in behind) (parts_words parts) (are_contents behind differ))
 are_contents (Element tag list inside behind) differ =
     let name = tag_name tag in
     let rest = codes "\n" ++ markup_onto behind [] in
@@ -111,15 +129,16 @@ are_contents (Element tag list inside behind) differ =
     let filled = codes ">" ++ markup_onto inside close in
     let e : markup_onto inside close ≡ markup_onto inside [] ++ close = markup_behind inside [] close in
     let f : attributes_onto list filled ≡ attributes_onto list [] ++ filled = attributes_behind list [] filled in
-    subst (λ t. AreContents (codes "<" ++ (name ++ t))) (sym f)
-    (subst (λ t. AreContents (codes "<" ++ (name ++ (attributes_onto list [] ++ (codes ">" ++ t))))) (sym e)
-    (element name (attributes_onto list []) (markup_onto inside []) rest (names_of list) (tag_is_name tag) (are_attributes list differ.0)
-    (are_contents inside differ.1) (some_words (codes "\n") (markup_onto behind []) newline (are_contents behind differ.2))))
+    let all = elements_in (Element tag list inside behind) in
+    subst (λ t. AreContents (codes "<" ++ (name ++ t)) all) (sym f)
+    (subst (λ t. AreContents (codes "<" ++ (name ++ (attributes_onto list [] ++ (codes ">" ++ t)))) all) (sym e)
+    (element name (attributes_onto list []) (markup_onto inside []) rest (given_in list) (elements_in inside) (elements_in behind) (tag_is_name tag) (are_attributes list differ.0)
+    (are_contents inside differ.1) (some_words (codes "\n") (markup_onto behind []) (elements_in behind) newline (are_contents behind differ.2))))
 
-pub texts_are_contents : (markup : Markup) → NamesDiffer markup → AreContents (text_of markup)
+pub texts_are_contents : (markup : Markup) → NamesDiffer markup → AreContents (text_of markup) (elements_in markup)
 unfolding text_of
 texts_are_contents markup differ = are_contents markup differ
 
-pub pictures_are_contents : (names : List (List ℕ)) (report : Report) → AreContents (picture names report)
+pub pictures_are_contents : (names : List (List ℕ)) (report : Report) → AreContents (picture names report) (elements_in (drawing names report))
 unfolding picture
 pictures_are_contents names report = texts_are_contents (drawing names report) (names_differ names report)

@@ -3,6 +3,7 @@
 pub use Rattle.batch_history.specs.Book
 pub use Rattle.batch_history.specs.Lawful
 pub mod Markup
+pub mod Elements
 pub mod WellFormed
 pub mod Names
 pub mod Boxes
@@ -10,4 +11,5 @@ pub mod Drawing
 pub mod Columns
 pub mod Picture
 pub mod Meaning
+pub mod Shown
 pub mod Code

@@ -1,7 +1,9 @@
--- When a text is well-formed: a grammar of words and closed elements, apart from the writer of markup.
-use Rattle.std.specs.Prelude.{◌≢◌, ℕ, Bool, false, IsTrue, ◌&&◌, ◌||◌, ◌==◌, nat_le, not, List, [], ◌∷◌, ◌++◌, codes}
+-- When a text is well-formed, and which elements it has: a grammar of words and closed elements, apart from the writer of
+-- markup.
+use Rattle.std.specs.Prelude.{◌≢◌, ℕ, Bool, false, IsTrue, ◌&&◌, ◌||◌, ◌==◌, nat_le, not, List, [], ◌∷◌, ◌++◌, map, codes}
 use Rattle.std.specs.List.{list_all, list_any}
 use Rattle.std.specs.Str.{bytes_eq}
+use Rattle.report_picture.specs.Elements.{Given, Elements, NoElements, An}
 
 -- the byte is none of `&`, `<`, `>` and the two quotes
 pub record IsPlain (byte : ℕ) : Type 0 where
@@ -38,18 +40,22 @@ is_name (first ∷ rest) = is_letter first && list_all (λ byte. is_letter byte 
 abbrev pub is_new : List ℕ → List (List ℕ) → Bool
 is_new name names = not (list_any (bytes_eq name) names)
 
--- attributes with these names: a name that none behind it has and words between quotes, each behind a blank
-pub data AreAttributes : List (List ℕ) → List ℕ → Type 0 where
+-- the text has these attributes: a name that none behind it has and words between quotes, each behind a blank
+pub data AreAttributes : List ℕ → List Given → Type 0 where
   no_attributes : AreAttributes [] []
-  another : (name value rest : List ℕ) (names : List (List ℕ)) → IsTrue (is_name name) → IsTrue (is_new name names)
-      → AreWords value → AreAttributes names rest
-      → AreAttributes (name ∷ names) (codes " " ++ (name ++ (codes "=\"" ++ (value ++ (codes "\"" ++ rest)))))
+  another : (name value rest : List ℕ) (others : List Given) → IsTrue (is_name name) → IsTrue (is_new name (map (λ given. given.name) others))
+      → AreWords value → AreAttributes rest others
+      → AreAttributes (codes " " ++ (name ++ (codes "=\"" ++ (value ++ (codes "\"" ++ rest))))) (record { name = name; value = value } ∷ others)
 
--- contents: words, and elements that are closed by their own names, with attributes of different names and with
--- contents inside
-pub data AreContents : List ℕ → Type 0 where
-  no_contents : AreContents []
-  some_words : (bytes rest : List ℕ) → AreWords bytes → AreContents rest → AreContents (bytes ++ rest)
-  element : (name attributes inside rest : List ℕ) (names : List (List ℕ)) → IsTrue (is_name name)
-      → AreAttributes names attributes → AreContents inside → AreContents rest
-      → AreContents (codes "<" ++ (name ++ (attributes ++ (codes ">" ++ (inside ++ (codes "</" ++ (name ++ (codes ">" ++ rest))))))))
+-- the text has these elements: it is words, and elements that are closed by their own names, with attributes of different
+-- names and with contents inside
+pub data AreContents : List ℕ → Elements → Type 0 where
+  no_contents : AreContents [] NoElements
+  some_words : (bytes rest : List ℕ) (elements : Elements) → AreWords bytes → AreContents rest elements → AreContents (bytes ++ rest) elements
+  element : (name attributes inside rest : List ℕ) (given : List Given) (within behind : Elements) → IsTrue (is_name name)
+      → AreAttributes attributes given → AreContents inside within → AreContents rest behind
+      → AreContents (codes "<" ++ (name ++ (attributes ++ (codes ">" ++ (inside ++ (codes "</" ++ (name ++ (codes ">" ++ rest)))))))) (An name given within behind)
+
+-- the text has elements
+abbrev pub IsWellFormed : List ℕ → Type 0
+IsWellFormed text = (elements : Elements) × AreContents text elements

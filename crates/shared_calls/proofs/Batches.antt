@@ -41,7 +41,7 @@ module _ {P X : Type 0} (f : P → X) where
             let a = below.0 in let b = below.1 in
             map_swap (apply_swaps ps ms) m.0 m.1 (omega (arith, long, a)) (omega (arith, long, b)) ∙ ap (λ l. swap l m.0 m.1) (through ms below.2)
 
-every_shuffled : {X : Type 0} (P : X → Type 0) (xs ys : List X) → IsPermutation xs ys → AllByRecursion P xs → AllByRecursion P ys
+pub every_shuffled : {X : Type 0} (P : X → Type 0) (xs ys : List X) → IsPermutation xs ys → AllByRecursion P xs → AllByRecursion P ys
 every_shuffled P xs ys s h = recursion_from_All P ys (All-permutation P xs ys s (All-from_recursion P xs h))
 
 module _ {O R : Type 0} where

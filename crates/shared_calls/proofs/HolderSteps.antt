@@ -18,12 +18,12 @@ use Rattle.shared_calls.specs.declared.view.Slot.TheVariants.{Posted, Answered, 
 use Rattle.shared_calls.specs.declared.view.View.{View}
 use Rattle.shared_calls.specs.Serial.{SerialObject, replies_to_all, IsServedInSomeOrder}
 use Rattle.shared_calls.specs.Logs.{entry, ask, entries_of, calls_by, state_after, IsSerial}
-use Rattle.shared_calls.specs.Stages.{Stage, away, idle, posted, taken, owed, answered, word_of, request_of, served, IsFree, HomeIs}
+use Rattle.shared_calls.specs.Stages.{Stage, away, idle, posted, taken, owed, answered, retired, word_of, request_of, served, IsFree, HomeIs}
 use Rattle.shared_calls.specs.Rule.{Holds, Keeps, AllPairs, OfOthers}
 use Rattle.shared_calls.specs.Plays.{taking, publishing, answering, releasing, losing, Looks, Publishes, Answers, Releases, Loses}
 use Rattle.shared_calls.proofs.Lists.{put, put_here, put_else, each_so, each_push, each_at, pairs_push, none_in, there_push, last_there, calls_append, entries_each, entries_pairs, entries_far, after_batch, batch_far, batch_each, batch_adds, find, batch_serial, batch_state}
 use Rattle.shared_calls.proofs.Moves.{true_false, my, held_step, alike}
-use Rattle.shared_calls.proofs.Batches.{same_calls, served_entries}
+use Rattle.shared_calls.proofs.Batches.{same_calls, served_entries, every_shuffled}
 
 module _ {O R : Type 0} where
   -- a caller whose word is 1 has posted its call, where the holder has not taken it
@@ -34,6 +34,7 @@ module _ {O R : Type 0} where
   word_posted (taken op) is nt nd = absurd (nt op refl)
   word_posted (owed op r) is nt nd = absurd (nd op r refl)
   word_posted (answered op r) is nt nd = absurd (omega (arith, is))
+  word_posted retired is nt nd = absurd (omega (arith, is))
 
   all_free : (s : Stage O R) → ((op : O) → s ≢ taken op) → ((op : O) (r : R) → s ≢ owed op r) → IsFree s
   all_free away nt nd = tt
@@ -42,6 +43,7 @@ module _ {O R : Type 0} where
   all_free (taken op) nt nd = nt op refl
   all_free (owed op r) nt nd = nd op r refl
   all_free (answered op r) nt nd = tt
+  all_free retired nt nd = tt
 
   tail_in : (e : Entry O R) (es : List (Entry O R)) (x : Entry O R) → x.caller ≢ e.caller → Contains (e ∷ es) x → Contains es x
   tail_in e es x ne c = at c.0 c.1 c.2 where
@@ -64,7 +66,7 @@ module _ {T O R : Type 0} (object : SerialObject O R) (content : T → object.St
     unlost = by_case v.lost refl where
       by_case : (b : Bool) → v.lost ≡ b → b ≡ false
       by_case false e = refl
-      by_case true e = let f = (o.sees id v me).lost e in let g = hold.flag_is in let less = (my object content p s o k id v me from to).0 in absurd (omega (arith, f, g, less))
+      by_case true e = let f = ((o.sees id v me).lost e).0 in let g = hold.flag_is in let less = (my object content p s o k id v me from to).0 in absurd (omega (arith, f, g, less))
 
     alone : (x : ℕ) → x < p → x ≢ k → get_or s.words p 0 ≢ x + 1
     alone x below ne is = let g = hold.flag_is in ne (omega (arith, is, g))
@@ -100,7 +102,7 @@ module _ {T O R : Type 0} (object : SerialObject O R) (content : T → object.St
             (λ x below. dite (ℕ_discrete x u)
             (λ e. (ap (λ y. get_or s.words y 0) e ∙ (one ∙ ap word_of (sym (ap stage e ∙ here))), subst (λ y. HomeIs y (get_elem? homes x)) (sym (ap stage e ∙ here)) tt))
             (λ ne. ((o.stages x below).0 ∙ ap word_of (sym (else x ne)), subst (λ y. HomeIs y (get_elem? homes x)) (sym (else x ne)) (subst (HomeIs (o.stage x)) (sym (set_else s.homes u x none ne)) (o.stages x below).1))))
-            (subst (IsSerial object) (sym (append-nil o.log)) o.serial) o.few
+            (subst (IsSerial object) (sym (append-nil o.log)) o.serial) tt o.few
             (λ e. absurd (omega (arith, e, flag_is))) (λ e. absurd (omega (arith, e, flag_is))) (λ e. absurd (sound p s o k id v me from to held e))
             (λ x below. dite (ℕ_discrete x u) (λ e. ap request_of (ap stage e ∙ here) ∙ sym (ap request_of (ap o.stage e ∙ got.1))) (λ ne. ap request_of (else x ne)))
             (λ x below m is. ap (calls_by x) (append-nil o.log) ∙ (is ∙ ap (λ l. m ++ l) (dite (ℕ_discrete x u)
@@ -153,6 +155,7 @@ module _ {T O R : Type 0} (object : SerialObject O R) (content : T → object.St
         | inr far ↦ inr (far, batch_far es o.stage x far)
       ] in
       let serial : IsSerial object (o.log ++ batch) = batch_serial object o.log batch o.serial (got.2 ∙ ap (λ l. replies_to_all object (state_after object l) (map (λ (e : Entry O R). e.op) batch)) (sym h.log_is)) in
+      let known : AllByRecursion (λ (e : Entry O R). e.caller < p) batch = every_shuffled (λ (e : Entry O R). e.caller < p) es batch got.1 (each_so _ _ (λ (e : Entry O R) x. x.0) es each) in
       let content_is : content t ≡ state_after object (v.log ++ batch) = got.3 ∙ sym (batch_state object v.log batch) in (
         w,
         keeps,
@@ -164,7 +167,7 @@ module _ {T O R : Type 0} (object : SerialObject O R) (content : T → object.St
               | inl f ↦ ((o.stages x below).0 ∙ (ap word_of f.1.1.0 ∙ sym (ap word_of f.1.1.1.0)), subst (λ y. HomeIs y (get_elem? s.homes x)) (sym f.1.1.1.0) tt)
               | inr g ↦ ((o.stages x below).0 ∙ ap word_of (sym g.1), subst (λ y. HomeIs y (get_elem? s.homes x)) (sym g.1) (o.stages x below).1)
             ])
-            serial o.few (λ e. absurd (omega (arith, e, flag_is))) (λ e. absurd (omega (arith, e, flag_is))) (λ e. absurd (sound p s o k id v me from to held e))
+            serial known o.few (λ e. absurd (omega (arith, e, flag_is))) (λ e. absurd (omega (arith, e, flag_is))) (λ e. absurd (sound p s o k id v me from to held e))
             (λ x below. elim (same x) [
               | inl f ↦ ap request_of f.1.1.1.0 ∙ sym (ap request_of f.1.1.0)
               | inr g ↦ ap request_of g.1
@@ -242,7 +245,7 @@ module _ {T O R : Type 0} (object : SerialObject O R) (content : T → object.St
             (λ x below. dite (ℕ_discrete x j)
             (λ is. (ap (λ y. get_or ws y 0) is ∙ (word_here ∙ ap word_of (sym (ap stage is ∙ here))), subst (λ y. HomeIs y (get_elem? homes x)) (sym (ap stage is ∙ here)) (ap (λ y. get_elem? homes y) is ∙ home_here)))
             (λ ne. (get_or-set_other s.words j x 2 0 ne ∙ ((o.stages x below).0 ∙ ap word_of (sym (else x ne))), subst (λ y. HomeIs y (get_elem? homes x)) (sym (else x ne)) (subst (HomeIs (o.stage x)) (sym (set_else s.homes j x slot ne)) (o.stages x below).1))))
-            (subst (IsSerial object) (sym (append-nil o.log)) o.serial) (subst (λ (y : ℕ). y ≤ p + 1) (sym flag_same) o.few)
+            (subst (IsSerial object) (sym (append-nil o.log)) o.serial) tt (subst (λ (y : ℕ). y ≤ p + 1) (sym flag_same) o.few)
             (λ z. absurd (omega (arith, z, flag_same, flag_is))) (λ z. absurd (omega (arith, z, flag_same, flag_is))) (λ z. absurd (sound p s o k id v me from to held (sym flag_same ∙ z)))
             (λ x below. dite (ℕ_discrete x j) (λ is. ap request_of (ap stage is ∙ here) ∙ sym (ap request_of (ap o.stage is ∙ owes.0.1))) (λ ne. ap request_of (else x ne)))
             (λ x below m was. ap (calls_by x) (append-nil o.log) ∙ (was ∙ ap (λ l. m ++ l) (dite (ℕ_discrete x j)
@@ -294,7 +297,7 @@ module _ {T O R : Type 0} (object : SerialObject O R) (content : T → object.St
             refl refl refl (λ x. refl) refl refl (length-set s.words p 0 ∙ o.wide) (length-set s.homes p slot ∙ o.slots)
             (λ u below. let ne : u ≢ p = λ e. absurd (omega (arith, e, below)) in
             (get_or-set_other s.words p u 0 0 ne ∙ (o.stages u below).0, subst (HomeIs (o.stage u)) (sym (set_else s.homes p u slot ne)) (o.stages u below).1))
-            (subst (IsSerial object) (sym (append-nil o.log)) o.serial) (omega (arith, flag_now))
+            (subst (IsSerial object) (sym (append-nil o.log)) o.serial) tt (omega (arith, flag_now))
             (λ _. (t, rs, home, content_is ∙ ap (state_after object) (sym log_is)))
             (λ _ u below. all_free (o.stage u) (λ op is. none_in v.taken (ask u op) none_taken (h.takes_all u op below is)) (λ op r is. none_in v.owed (entry u op r) none_due (h.owes_all u op r below is)))
             (λ e. absurd (omega (arith, e, flag_now)))
@@ -317,10 +320,10 @@ module _ {T O R : Type 0} (object : SerialObject O R) (content : T → object.St
         held_step object content p s o k id v (losing v) (set s.words p (p + 1)) s.homes [] o.stage me from to (alone p s o k id v me from to held) (sound p s o k id v me from to held)
             refl refl refl (λ x. refl) refl refl (length-set s.words p (p + 1) ∙ o.wide) o.slots
             (λ u below. let ne : u ≢ p = λ e. absurd (omega (arith, e, below)) in (get_or-set_other s.words p u (p + 1) 0 ne ∙ (o.stages u below).0, (o.stages u below).1))
-            (subst (IsSerial object) (sym (append-nil o.log)) o.serial) (omega (arith, flag_now))
+            (subst (IsSerial object) (sym (append-nil o.log)) o.serial) tt (omega (arith, flag_now))
             (λ e. absurd (omega (arith, e, flag_now))) (λ e. absurd (omega (arith, e, flag_now)))
             (λ _ u op r below is. none_in v.owed (entry u op r) none_due (h.owes_all u op r below is))
             (λ x below. refl) (λ x below m is. ap (calls_by x) (append-nil o.log) ∙ is) (λ x below ne is. absurd (omega (arith, is, flag_now, below)))
-            (λ _. flag_now) (λ _ is. absurd (omega (arith, is, flag_now, less))) (λ e. absurd (true_false (sym e))),
+            (λ _. (flag_now, append-nil o.log ∙ h.log_is)) (λ _ is. absurd (omega (arith, is, flag_now, less))) (λ e. absurd (true_false (sym e))),
         refl,
       )

@@ -7,4 +7,5 @@ pub mod Seats
 pub mod InHand
 pub mod Loops
 pub mod Openings
+pub mod Closings
 pub mod InOrder

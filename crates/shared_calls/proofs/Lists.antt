@@ -30,6 +30,10 @@ pub each_push : {X : Type 0} (P : X → Type 0) (xs : List X) (x : X) → AllByR
 each_push P [] x h g = (g, tt)
 each_push P (y ∷ xs) x h g = (h.0, each_push P xs x h.1 g)
 
+pub each_append : {X : Type 0} (P : X → Type 0) (xs ys : List X) → AllByRecursion P xs → AllByRecursion P ys → AllByRecursion P (xs ++ ys)
+each_append P [] ys h g = g
+each_append P (x ∷ xs) ys h g = (h.0, each_append P xs ys h.1 g)
+
 pub pairs_push : {X : Type 0} (R : X → X → Type 0) (xs : List X) (x : X) → AllPairs R xs → AllByRecursion (λ y. R y x) xs → AllPairs R (xs ++ x ∷ [])
 pairs_push R [] x h g = (tt, tt)
 pairs_push R (y ∷ xs) x h g = (each_push (R y) xs x h.0 g.0, pairs_push R xs x h.1 g.1)

@@ -6,6 +6,7 @@ use mathlib.Core.Option.{none, some}
 use native.Mathlib.Decide.{ℕ_discrete}
 use lib.ListN.{get_elem?}
 use lib.Seq.{set-get_or}
+use Rattle.std.specs.List.{AllByRecursion}
 use Rattle.atomic_table.specs.Table.{State}
 use Rattle.atomic_table.proofs.Lists.{at_set, set_again}
 use Rattle.shared_calls.specs.declared.view.Entry.{Entry}
@@ -17,7 +18,7 @@ use Rattle.shared_calls.specs.Serial.{SerialObject}
 use Rattle.shared_calls.specs.Logs.{calls_by, StartsWith, state_after, IsSerial}
 use Rattle.shared_calls.specs.Stages.{Stage, taken, owed, word_of, request_of, served, IsFree, HomeIs}
 use Rattle.shared_calls.specs.Rule.{Holds, Stands, Sees, Keeps, made_by}
-use Rattle.shared_calls.proofs.Lists.{put, put_here, put_else, each_so, starts_more}
+use Rattle.shared_calls.proofs.Lists.{put, put_here, put_else, each_so, each_append, starts_more}
 
 pub true_false : true ≡ false → ⊥
 true_false e = cc
@@ -62,7 +63,7 @@ module _ {T O R : Type 0} (object : SerialObject O R) (content : T → object.St
 
   -- a step by a caller that does not hold the flag: its own stage becomes b
   pub own_step : (p : ℕ) (s : State (Slot T O R) (View O R)) (o : Keeps object content p s) (k id : ℕ) (v w : View O R) (ws : List ℕ) (hs : List (M.Option (Slot T O R))) (b : Stage O R)
-      → get_elem? s.views id ≡ some v → v.from ≡ k → v.to ≡ k + 1 → v.holds ≡ false → IsFree (o.stage k) → IsFree b
+      → get_elem? s.views id ≡ some v → v.from ≡ k → v.to ≡ k + 1 → v.holds ≡ false → (get_or s.words p 0 ≢ p + 1 → IsFree (o.stage k)) → IsFree b
       → w.from ≡ v.from → w.to ≡ v.to → w.holds ≡ false → w.lost ≡ v.lost → length ws ≡ p + 1 → length hs ≡ p + 1
       → ((u : ℕ) → u ≢ k → get_or ws u 0 ≡ get_or s.words u 0) → ((u : ℕ) → u ≢ k → get_elem? hs u ≡ get_elem? s.homes u)
       → get_or ws k 0 ≡ word_of b → HomeIs b (get_elem? hs k) → w.request ≡ request_of b
@@ -92,6 +93,7 @@ module _ {T O R : Type 0} (object : SerialObject O R) (content : T → object.St
               subst (λ x. HomeIs x (get_elem? hs u)) (sym (put_else o.stage k u b ne)) (subst (λ x. HomeIs (o.stage u) x) (sym (homes u ne)) (o.stages u below).1),
             ));
         serial = o.serial;
+        known = o.known;
         few = subst (λ (n : ℕ). n ≤ p + 1) (sym flag_same) o.few;
         home = λ zero_flag. let h = o.home (sym flag_same ∙ zero_flag) in (h.0, h.1, home_same ∙ h.2, h.3);
         none_taken = λ zero_flag u below. dite (ℕ_discrete u k) (λ e. subst IsFree (sym (put_here o.stage k u b e)) after)
@@ -126,7 +128,11 @@ module _ {T O R : Type 0} (object : SerialObject O R) (content : T → object.St
                 made = was.1.made ∙ ap (λ z. made_by u x ++ served x z) (sym (put_else o.stage k x b far));
                 own = was.1.own;
                 free = λ f h. was.1.free f (sym flag_same ∙ h);
-                holds = λ h. holds_still p (get_or s.words p 0) (get_or ws p 0) o.log o.stage u x k b flag_same before after (was.1.holds h);
+                holds = λ h.
+                    let held = was.1.holds h in
+                    let flag_is = held.flag_is in
+                    let below = was.0 in
+                    holds_still p (get_or s.words p 0) (get_or ws p 0) o.log o.stage u x k b flag_same (before (λ lost. absurd (omega (arith, lost, flag_is, below)))) after held;
               },
             )) (at_set s.views id i w u e);
       }
@@ -140,16 +146,16 @@ module _ {T O R : Type 0} (object : SerialObject O R) (content : T → object.St
       → w.from ≡ v.from → w.to ≡ v.to → w.request ≡ v.request → ((x : ℕ) → made_by w x ≡ made_by v x) → w.seen ≡ v.seen → w.heard ≡ v.heard
       → length ws ≡ p + 1 → length hs ≡ p + 1
       → ((u : ℕ) → u < p → (get_or ws u 0 ≡ word_of (stage u)) × HomeIs (stage u) (get_elem? hs u))
-      → IsSerial object log' → flag' ≤ p + 1
+      → IsSerial object log' → AllByRecursion (λ (e : Entry O R). e.caller < p) more → flag' ≤ p + 1
       → (flag' ≡ 0 → (t : T) × (rs : _) × (get_elem? hs p ≡ some (some (Whole t rs))) × (content t ≡ state_after object log'))
       → (flag' ≡ 0 → (u : ℕ) → u < p → IsFree (stage u))
       → (flag' ≡ p + 1 → (u : ℕ) (op : O) (r : R) → u < p → stage u ≢ owed op r)
       → ((x : ℕ) → x < p → request_of (stage x) ≡ request_of (o.stage x))
       → ((x : ℕ) → x < p → (m : List (Entry O R)) → calls_by x o.log ≡ m ++ served x (o.stage x) → calls_by x log' ≡ m ++ served x (stage x))
       → ((x : ℕ) → x < p → x ≢ k → flag' ≢ x + 1)
-      → (w.lost ≡ true → flag' ≡ p + 1) → (w.holds ≡ false → flag' ≢ k + 1) → (w.holds ≡ true → Holds p flag' log' stage w k)
+      → (w.lost ≡ true → (flag' ≡ p + 1) × (log' ≡ w.log)) → (w.holds ≡ false → flag' ≢ k + 1) → (w.holds ≡ true → Holds p flag' log' stage w k)
       → Keeps object content p record { words = ws; homes = hs; views = set s.views id w }
-  held_step p s o k id v w ws hs more stage me from to alone sound from' to' asks' made' seen' heard' wide slots stages serial few home none_taken none_owed asks made others lost free holds =
+  held_step p s o k id v w ws hs more stage me from to alone sound from' to' asks' made' seen' heard' wide slots stages serial known few home none_taken none_owed asks made others lost free holds =
       let m = my p s o k id v me from to in
       let log' : List (Entry O R) = o.log ++ more in
       record {
@@ -161,6 +167,7 @@ module _ {T O R : Type 0} (object : SerialObject O R) (content : T → object.St
         seated = λ x. subst (λ (n : ℕ). o.seat x < n) (sym (length-set s.views id w)) (o.seated x);
         stages = stages;
         serial = serial;
+        known = each_append (λ (e : Entry O R). e.caller < p) o.log more o.known known;
         few = few;
         home = home;
         none_taken = none_taken;
@@ -170,14 +177,14 @@ module _ {T O R : Type 0} (object : SerialObject O R) (content : T → object.St
             let was = o.sees id v me in
             subst (Sees p (get_or ws p 0) log') t.1 (record {
               seen = starts_more o.log more w.seen (subst (StartsWith o.log) (sym seen') was.seen);
-              heard = starts_more o.log more w.heard (subst (StartsWith o.log) (sym heard') was.heard);
+              heard = each_so _ _ (λ l h. starts_more o.log more l h) w.heard (subst (AllByRecursion (StartsWith o.log)) (sym heard') was.heard);
               lost = lost;
             }))
             (λ t.
             let was = o.sees i u t.1 in record {
               seen = starts_more o.log more u.seen was.seen;
-              heard = starts_more o.log more u.heard was.heard;
-              lost = λ h. absurd (sound (was.lost h));
+              heard = each_so _ _ (λ l h. starts_more o.log more l h) u.heard was.heard;
+              lost = λ h. absurd (sound (was.lost h).0);
             }) (at_set s.views id i w u e);
         stands = λ i u x e lo hi. ⊎_elim
             (λ t.

@@ -57,11 +57,12 @@ module _ {T O R : Type 0} (object : SerialObject O R) (content : T → object.St
         seated = λ w. omega arith;
         stages = λ w less. (get_or-set_other threes_all p w 0 0 (λ same. absurd (omega (arith, same, less))) ∙ threes q w (omega (arith, less, wide)), vacant_at p w (Whole t rs ∷ []) less);
         serial = refl;
+        known = tt;
         few = omega (arith, flag);
         home = λ _. (t, rs, whole_at p (Whole t rs), is);
         none_taken = λ _ w less. tt;
         none_owed = λ lost. absurd (omega (arith, lost, flag));
-        sees = λ i u at. subst (Sees p (get_or ws p 0) []) (only_one u (first_view p) i at).1 (record { seen = ([], refl); heard = ([], refl); lost = λ h. absurd (true_false (sym h)) });
+        sees = λ i u at. subst (Sees p (get_or ws p 0) []) (only_one u (first_view p) i at).1 (record { seen = ([], refl); heard = tt; lost = λ h. absurd (true_false (sym h)) });
         stands = λ i u w at lo hi. let o = only_one u (first_view p) i at in (
           subst (λ (m : ℕ). w < m) (ap (λ (y : View O R). y.to) (sym o.1)) hi,
           subst (λ (y : View O R). Stands p (get_or ws p 0) [] (λ w. away) 0 i y w) o.1 (record {

@@ -7,3 +7,4 @@ pub mod Rule
 pub mod Plays
 pub mod Callers
 pub mod Views
+pub mod Closing

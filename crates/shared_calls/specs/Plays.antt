@@ -1,10 +1,11 @@
 -- What each step tells its seat: a relation of the step, the seat before, the number found, and the seat after. Word p,
 -- the flag, is the word of the steps that speak of it.
 use Rattle.std.specs.Prelude.{◌≡◌, ◌≢◌, ℕ, ◌+◌, List, [], ◌∷◌, ◌++◌, drop, true, false, slice_index_or}
+use Rattle.std.specs.List.{AllByRecursion}
 use Rattle.atomic_table.specs.Table.{Me, Step, rest}
 use Rattle.shared_calls.specs.declared.view.Entry.{Entry}
 use Rattle.shared_calls.specs.declared.view.Request.{Request}
-use Rattle.shared_calls.specs.declared.view.Request.TheVariants.{Nothing, Asks}
+use Rattle.shared_calls.specs.declared.view.Request.TheVariants.{Nothing, Asks, Retired}
 use Rattle.shared_calls.specs.declared.view.Slot.{Slot}
 use Rattle.shared_calls.specs.declared.view.Slot.TheVariants.{Vacant, Posted, Answered, Whole}
 use Rattle.shared_calls.specs.declared.view.View.{View}
@@ -26,7 +27,7 @@ module _ {O R : Type 0} where
 
   -- a seat hears a note
   abbrev pub hearing : View O R → View O R → View O R
-  hearing v note = record v { heard = note.seen }
+  hearing v note = record v { heard = note.seen ∷ [] }
 
   abbrev pub heard_view : View O R → List (Entry O R) → View O R
   heard_view v log = record v { seen = log; heard = [] }
@@ -38,12 +39,16 @@ module _ {O R : Type 0} where
   abbrev pub with_request : Request O → View O R → View O R
   with_request r v = record v { request = r }
 
-  abbrev pub found_lost : View O R → View O R
-  found_lost v = record v { lost = true }
+  abbrev pub found_lost : View O R → List (Entry O R) → View O R
+  found_lost v log = record v { lost = true; log = log }
 
   -- the calls that a caller made
   abbrev pub own_calls : View O R → List (Entry O R)
   own_calls v = slice_index_or v.made 0 []
+
+  -- the calls that it made are its own among those of its log
+  abbrev pub KnowsItsCalls : View O R → Type 0
+  KnowsItsCalls v = calls_by v.from v.log ≡ own_calls v
 
   abbrev pub leaving : View O R → O → R → List (Entry O R) → View O R
   leaving v op reply log =
@@ -66,19 +71,28 @@ module _ {O R : Type 0} where
   releasing v = record v { holds = false; log = []; looks = 0; taken = []; owed = [] }
 
   abbrev pub losing : View O R → View O R
-  losing v = record v { lost = true; holds = false; log = []; looks = 0; taken = []; owed = [] }
+  losing v = record v { lost = true; holds = false; looks = 0; taken = []; owed = [] }
+
+  -- a caller retires: what it made and what it has seen are kept
+  abbrev pub retiring : View O R → View O R
+  retiring v = record v { request = Retired; made = own_calls v ∷ []; heard = v.seen ∷ [] }
+
+  -- a seat stands for the callers of its neighbour too
+  abbrev pub gathering : View O R → View O R → View O R
+  gathering v w = record v { to = w.to; made = v.made ++ w.made; heard = v.heard ++ w.heard }
 
 module _ {O R : Type 0} (object : SerialObject O R) where
   -- The caller has its reply, and has seen all calls so far: they go on from those that it saw before, and among those
-  -- that came since, this call is its only one.
+  -- that came since, this call is its only one. Where the structure is lost, these are all.
   abbrev pub IsLeft : View O R → R → View O R → Type 0
   IsLeft v reply w = (op : O) × (more : List (Entry O R)) × (v.request ≡ Asks op) × IsSerial object (v.seen ++ more)
       × (calls_by v.from more ≡ entry v.from op reply ∷ []) × (w ≡ leaving v op reply (v.seen ++ more))
+      × (v.lost ≡ true → (w.log ≡ w.seen) × KnowsItsCalls w)
 
-  -- among the calls that came since there is none of this caller
+  -- among the calls that came since there is none of this caller, and these are all
   abbrev pub IsNotServed : View O R → Type 0
-  IsNotServed v =
-      (more : List (Entry O R)) × IsSerial object (v.seen ++ more) × (calls_by v.from more ≡ [])
+  IsNotServed v = (more : List (Entry O R)) × IsSerial object (v.seen ++ more) × (calls_by v.from more ≡ [])
+      × (v.log ≡ v.seen ++ more) × KnowsItsCalls v
 
 abbrev pub SeatOf : Type 0 → Type 0 → Type 0 → Type 0
 SeatOf T O R = Me (Slot T O R) (View O R)
@@ -106,6 +120,9 @@ module _ {T O R : Type 0} where
   abbrev pub Loses : Told T O R
   Loses st m found n = n ≡ (losing m.0, m.1)
 
+  abbrev pub Retires : Told T O R
+  Retires st m found n = n ≡ (retiring m.0, m.1)
+
   module _ (object : SerialObject O R) where
     abbrev pub Leaves : Told T O R
     Leaves st m found n =
@@ -114,7 +131,7 @@ module _ {T O R : Type 0} where
 
     abbrev pub Hears : Told T O R
     Hears st m found n = (more : List (Entry O R)) × IsSerial object (m.0.seen ++ more)
-        × StartsWith (m.0.seen ++ more) m.0.heard × (calls_by m.0.from more ≡ [])
+        × AllByRecursion (StartsWith (m.0.seen ++ more)) m.0.heard × (calls_by m.0.from more ≡ [])
         × (n ≡ (heard_view m.0 (m.0.seen ++ more), m.1))
 
     -- the structure in hand has the content after all calls, with those of the batch
@@ -127,5 +144,5 @@ module _ {T O R : Type 0} where
     Wins content st m found n =
         (found ≡ 0 → (t : T) × (rs : _) × (log : List (Entry O R)) × (content t ≡ state_after object log)
         × (n ≡ (winning m.0 log, (st.word, Whole t rs) ∷ m.1)))
-        × (found ≡ st.word + 1 → n ≡ (found_lost m.0, m.1))
+        × (found ≡ st.word + 1 → (log : List (Entry O R)) × (n ≡ (found_lost m.0 log, m.1)))
         × (found ≢ 0 → found ≢ st.word + 1 → n ≡ m)

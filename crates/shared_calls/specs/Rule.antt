@@ -70,8 +70,8 @@ module _ {O R : Type 0} where
   -- what each seat knows
   pub record Sees (p flag : ℕ) (log : List (Entry O R)) (v : View O R) : Type 0 where
     pub seen : StartsWith log v.seen
-    pub heard : StartsWith log v.heard
-    pub lost : v.lost ≡ true → flag ≡ p + 1
+    pub heard : AllByRecursion (StartsWith log) v.heard
+    pub lost : v.lost ≡ true → (flag ≡ p + 1) × (log ≡ v.log)
 
 module _ {T O R : Type 0} (object : SerialObject O R) (content : T → object.State) where
   pub record Keeps (p : ℕ) (s : State (Slot T O R) (View O R)) : Type 0 where
@@ -83,6 +83,7 @@ module _ {T O R : Type 0} (object : SerialObject O R) (content : T → object.St
     pub seated : (w : ℕ) → seat w < length s.views
     pub stages : (w : ℕ) → w < p → (slice_index s.words w ≡ word_of (stage w)) × HomeIs (stage w) (get_elem? s.homes w)
     pub serial : IsSerial object log
+    pub known : AllByRecursion (λ (e : Entry O R). e.caller < p) log
     pub few : slice_index s.words p ≤ p + 1
     -- where the flag is free, the structure is at home with the content after all calls, and no call is taken
     pub home : slice_index s.words p ≡ 0

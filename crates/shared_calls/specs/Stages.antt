@@ -3,13 +3,13 @@ use Rattle.std.specs.Prelude.{◌≡◌, ℕ, List, [], ◌∷◌}
 use mathlib.Core.Option.{Option, some}
 use Rattle.shared_calls.specs.declared.view.Entry.{Entry}
 use Rattle.shared_calls.specs.declared.view.Request.{Request}
-use Rattle.shared_calls.specs.declared.view.Request.TheVariants.{Absent, Nothing, Asks}
+use Rattle.shared_calls.specs.declared.view.Request.TheVariants.{Absent, Nothing, Asks, Retired}
 use Rattle.shared_calls.specs.declared.view.Slot.{Slot}
 use Rattle.shared_calls.specs.declared.view.Slot.TheVariants.{Vacant, Posted, Answered}
 use Rattle.shared_calls.specs.Logs.{entry}
 
 -- The caller is away, or asks nothing and has its slot. Its call is posted; taken by the holder of the flag, and with it
--- the slot; served, and the holder owes the reply; answered.
+-- the slot; served, and the holder owes the reply; answered. Or the caller has retired: it makes no further call.
 pub data Stage (O R : Type 0) : Type 0 where
   away : Stage O R
   idle : Stage O R
@@ -17,6 +17,7 @@ pub data Stage (O R : Type 0) : Type 0 where
   taken : O → Stage O R
   owed : O → R → Stage O R
   answered : O → R → Stage O R
+  retired : Stage O R
 
 module _ {O R : Type 0} where
   abbrev pub word_of : Stage O R → ℕ
@@ -26,6 +27,7 @@ module _ {O R : Type 0} where
   word_of (taken op) = 1
   word_of (owed op reply) = 1
   word_of (answered op reply) = 2
+  word_of retired = 3
 
   -- what the caller knows of it
   abbrev pub request_of : Stage O R → Request O
@@ -35,6 +37,7 @@ module _ {O R : Type 0} where
   request_of (taken op) = Asks op
   request_of (owed op reply) = Asks op
   request_of (answered op reply) = Asks op
+  request_of retired = Retired
 
   -- the call, where it was served and its caller has not left
   abbrev pub served : ℕ → Stage O R → List (Entry O R)
@@ -44,6 +47,7 @@ module _ {O R : Type 0} where
   served n (taken op) = []
   served n (owed op reply) = entry n op reply ∷ []
   served n (answered op reply) = entry n op reply ∷ []
+  served n retired = []
 
   -- the holder of the flag does not have it
   abbrev pub IsFree : Stage O R → Type 0
@@ -53,6 +57,7 @@ module _ {O R : Type 0} where
   IsFree (taken op) = ⊥
   IsFree (owed op reply) = ⊥
   IsFree (answered op reply) = Unit {0}
+  IsFree retired = Unit {0}
 
 module _ {T O R : Type 0} where
   abbrev pub HomeIs : Stage O R → Option (Option (Slot T O R)) → Type 0
@@ -62,3 +67,4 @@ module _ {T O R : Type 0} where
   HomeIs (taken op) home = Unit {0}
   HomeIs (owed op reply) home = Unit {0}
   HomeIs (answered op reply) home = home ≡ some (some (Answered reply))
+  HomeIs retired home = Unit {0}

@@ -7,6 +7,9 @@ use Rattle.shared_calls.specs.declared.view.Entry.{Entry}
 use Rattle.shared_calls.specs.declared.combined.Combined.{Ghosts}
 use Rattle.shared_calls.specs.Plays.{own_calls}
 
+abbrev pub number_of_callers : {T O R : Type 0} → Shared T O R → ℕ
+number_of_callers s = s.callers
+
 module _ {T O R : Type 0} {g : Ghosts T O R} where
   abbrev pub number_of : Caller T O R g → ℕ
   number_of c = c.number

@@ -5,7 +5,7 @@ ghost use Rattle.shared_calls.specs.declared.view.Asked.{Asked as AskedOf};
 ghost use Rattle.shared_calls.specs.declared.view.View.{View as ViewOf};
 ghost use Rattle.shared_calls.specs.declared.view.Slot.TheVariants.{Vacant};
 ghost use Rattle.shared_calls.specs.Logs.{state_after};
-ghost use Rattle.shared_calls.specs.Plays.{releasing, own_calls, IsLeft};
+ghost use Rattle.shared_calls.specs.Plays.{releasing, own_calls, IsLeft, KnowsItsCalls};
 ghost use Rattle.shared_calls.specs.Callers.{in_hand, collected, owing, IsAnswered, IsRefused, IsServed, IsUnserved};
 ghost use Rattle.shared_calls.specs.Views.{IsCallerOf, number_of, made, seen, is_lost};
 
@@ -115,7 +115,7 @@ impl<T: Combined> Shared<T> {
         requires settled { (seat.old.me.0.holds ≡ false) × (seat.old.me ≡ (releasing seat.old.me.0, [])) }
         ensures table { seat.new.table_id ≡ seat.old.table_id }
         ensures left { IfOk result (λ reply. (w : ViewOf T.Op T.Reply) × IsLeft T.object seat.old.me.0 reply w × (seat.new.me ≡ (w, (number, Vacant) ∷ []))) }
-        ensures lost { IfErr result (λ lost. (seat.new.me.0.lost ≡ true) × (seat.new.me.0.from ≡ number) × (seat.new.me.0.to ≡ number + 1)
+        ensures lost { IfErr result (λ lost. (seat.new.me.0.lost ≡ true) × (seat.new.me.0.holds ≡ false) × (seat.new.me.0.from ≡ number) × (seat.new.me.0.to ≡ number + 1) × KnowsItsCalls seat.new.me.0
             × IfSome lost.reply (λ reply. IsAnswered T.object seat.old.me.0 reply seat.new.me.0) × IfNone lost.reply (IsRefused T.object seat.old.me.0 seat.new.me.0)) }
     {
         let backoff = Backoff::new();

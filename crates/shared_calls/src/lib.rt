@@ -9,6 +9,7 @@
 #![tactic(auto)]
 
 mod calls;
+mod close;
 mod combined;
 pub mod laws;
 mod notes;

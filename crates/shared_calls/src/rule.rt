@@ -1,7 +1,7 @@
 //! The rule of the table, and what each step tells its seat.
 ghost use Rattle.shared_calls.specs.Rule.{Keeps, first_view};
-ghost use Rattle.shared_calls.specs.Plays.{first_caller, other_callers, note_of, hearing, spent_view};
-ghost use Rattle.shared_calls.specs.Plays.{Enrolls, Posts, Leaves, Wins, Looks, Publishes, Answers, Releases, Loses, Hears};
+ghost use Rattle.shared_calls.specs.Plays.{first_caller, other_callers, note_of, hearing, gathering, spent_view};
+ghost use Rattle.shared_calls.specs.Plays.{Enrolls, Posts, Leaves, Wins, Looks, Publishes, Answers, Releases, Loses, Hears, Retires};
 
 use crate::combined::Combined;
 use crate::view::{Slot, View};
@@ -42,6 +42,24 @@ pub struct Hearing;
 
 impl<O, R> Join<View<O, R>> for Hearing {
     ghost both = { hearing };
+
+    ghost spent = { spent_view };
+}
+
+/// Leaves the slots of a caller behind.
+pub struct Parting;
+
+impl<O, R> Split<View<O, R>> for Parting {
+    ghost left = { λ v. spent_view };
+
+    ghost right = { λ v. v };
+}
+
+/// Takes in the seat of callers that have retired.
+pub struct Gathering;
+
+impl<O, R> Join<View<O, R>> for Gathering {
+    ghost both = { gathering };
 
     ghost spent = { spent_view };
 }
@@ -113,6 +131,13 @@ pub struct Lose;
 
 impl<T, O, R> Play<Slot<T, O, R>, View<O, R>> for Lose {
     ghost then = { Loses };
+}
+
+/// A caller retires.
+pub struct Retire;
+
+impl<T, O, R> Play<Slot<T, O, R>, View<O, R>> for Retire {
+    ghost then = { Retires };
 }
 
 /// A caller sees all calls so far, with those of the note that it took in.

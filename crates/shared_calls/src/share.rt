@@ -2,7 +2,7 @@
 ghost use Rattle.std.specs.Prelude.{◌≡◌, ℕ, ◌+◌, ◌<◌, ◌≤◌, [], ◌∷◌, ◌++◌, replicate, slice_set, false, vec_len, slice_get, IfOk, IfSome};
 ghost use Rattle.shared_calls.specs.declared.view.Slot.TheVariants.{Vacant, Whole as WholeOf};
 ghost use Rattle.shared_calls.specs.Callers.{idle_view};
-ghost use Rattle.shared_calls.specs.Views.{AreNewCallers};
+ghost use Rattle.shared_calls.specs.Views.{AreNewCallers, number_of_callers};
 ghost use Rattle.shared_calls.specs.Serial.{SerialObject};
 ghost use Rattle.shared_calls.specs.Rule.{newcomers};
 
@@ -87,6 +87,7 @@ impl<T: Combined> Shared<T> {
     ) -> Result<(Shared<T>, Vec<Caller<T>>), AllocError>
         requires count { (1 ≤ callers) × (callers ≤ 32) }
         requires opening { T.content structure ≡ SerialObject.opening T.object }
+        ensures all { IfOk result (λ r. number_of_callers r.0 ≡ callers) }
         ensures callers { IfOk result (λ r. AreNewCallers callers r.0 r.1.items) }
     {
         let words = opening_words(alloc, callers)?;

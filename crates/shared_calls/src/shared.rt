@@ -2,6 +2,7 @@
 ghost use Rattle.std.specs.Prelude.{◌≡◌, ◌+◌, ◌<◌, ◌≤◌, [], ◌∷◌, true, false};
 ghost use Rattle.shared_calls.specs.declared.view.Slot.TheVariants.{Vacant};
 ghost use Rattle.shared_calls.specs.Callers.{idle_view};
+ghost use Rattle.shared_calls.specs.Plays.{KnowsItsCalls};
 
 use crate::combined::Combined;
 use crate::rule::CallRule;
@@ -43,7 +44,7 @@ pub struct Caller<T: Combined> {
     pub(crate) lost: bool,
     ghost own: { (seat.me.0.from ≡ number) × (seat.me.0.to ≡ number + 1) },
     ghost idle: { lost ≡ false → seat.me ≡ (idle_view number seat.me.0.made seat.me.0.seen, (number, Vacant) ∷ []) },
-    ghost told: { lost ≡ true → seat.me.0.lost ≡ true },
+    ghost told: { lost ≡ true → (seat.me.0.lost ≡ true) × (seat.me.0.holds ≡ false) × KnowsItsCalls seat.me.0 },
 }
 
 impl<T: Combined> Drop for Caller<T> {
@@ -67,6 +68,21 @@ impl<T: Combined> Drop for Note<T> {
     fn drop(self) {
         let Note { seat } = self;
         drop(seat);
+    }
+}
+
+impl<T: Combined> Shared<T> {
+    pub(crate) fn into_table(
+        self,
+    ) -> Table<Slot<T, T::Op, T::Reply>, View<T::Op, T::Reply>, u64, CallRule<T>, Global>
+        ensures { (result.shared.table_id ≡ self.table.shared.table_id) × (result.shared.key ≡ self.table.shared.key) }
+    {
+        let Shared {
+            table,
+            callers: _,
+            alloc: _,
+        } = self;
+        table
     }
 }
 

@@ -81,7 +81,7 @@ impl<T: Combined> Shared<T> {
         ensures won { (t : T) → result ≡ Flag t → (log : List (EntryOf T.Op T.Reply)) × (T.content t ≡ state_after T.object log)
             × (seat.new.me ≡ (winning seat.old.me.0 log, (self.now.callers, Vacant) ∷ [])) }
         ensures held { result ≡ Held → seat.new.me ≡ seat.old.me }
-        ensures lost { result ≡ Lost → seat.new.me ≡ (found_lost seat.old.me.0, []) }
+        ensures lost { result ≡ Lost → (log : List (EntryOf T.Op T.Reply)) × (seat.new.me ≡ (found_lost seat.old.me.0 log, [])) }
     {
         let shared = &self.table.shared;
         let flag = self.callers;

@@ -1,0 +1,44 @@
+use Rattle.std.proofs.Common.{◌≡◌, ℕ, sym, ap, ◌∙◌, subst}
+use Rattle.std.specs.Mem.Slots.{slots_items}
+use mathlib.Core.Option.{some-injective}
+use Rattle.atomic_table.specs.Table.{Final, Seen}
+use Rattle.shared_calls.specs.Rule.{Keeps}
+use Rattle.shared_calls.proofs.InHand.{same_whole}
+use Rattle.shared_calls.proofs.Closings.{word_at, all_calls, structure_there}
+use Rattle.shared_calls.proofs.shared.Shared.close.Goals as goal
+
+pub returns-then-flag-ne0-clause-lost : goal.returns-then-flag-ne0-clause-lost
+returns-then-flag-ne0-clause-lost g c =
+    let s = c.args.self in
+    let seat = c.gather-seat.result in
+    let ws = slots_items c.close_with-closed.result.words in
+    let xs = slots_items c.close_with-closed.result.slots in
+    let final = subst (λ (q : ℕ). Final (Seen (Keeps g.T.Combined.object g.T.Combined.content q) seat.id seat.me.0) ws xs) (c.into_table.ensures.1 ∙ s.key) c.close_with-closed.ensures.values.2 in
+    (_, all_calls g.T.Combined.object g.T.Combined.content s.callers seat.id c.args.callers.items seat.me.0 ws xs c.requires.callers.count c.gather-seat.ensures.gathers final)
+
+pub unreachable-requires : goal.unreachable-requires
+unreachable-requires g c =
+    let s = c.args.self in
+    let seat = c.gather-seat.result in
+    let ws = slots_items c.close_with-closed.result.words in
+    let xs = slots_items c.close_with-closed.result.slots in
+    let final = subst (λ (q : ℕ). Final (Seen (Keeps g.T.Combined.object g.T.Combined.content q) seat.id seat.me.0) ws xs) (c.into_table.ensures.1 ∙ s.key) c.close_with-closed.ensures.values.2 in
+    let there = structure_there g.T.Combined.object g.T.Combined.content s.callers seat.id c.args.callers.items seat.me.0 ws xs c.requires.callers.count c.gather-seat.ensures.gathers final
+        (word_at ws s.callers c.word-flag.result c.word-flag.ensures ∙ c.if-flag-ne0.false) in
+    c.in_default.not-Whole there.0 there.1 (some-injective _ _ (sym c.take-last.ensures.value ∙ there.2))
+
+pub returns-clause-kept : goal.returns-clause-kept
+returns-clause-kept g c =
+    let s = c.args.self in
+    let seat = c.gather-seat.result in
+    let ws = slots_items c.close_with-closed.result.words in
+    let xs = slots_items c.close_with-closed.result.slots in
+    let final = subst (λ (q : ℕ). Final (Seen (Keeps g.T.Combined.object g.T.Combined.content q) seat.id seat.me.0) ws xs) (c.into_table.ensures.1 ∙ s.key) c.close_with-closed.ensures.values.2 in
+    let there = structure_there g.T.Combined.object g.T.Combined.content s.callers seat.id c.args.callers.items seat.me.0 ws xs c.requires.callers.count c.gather-seat.ensures.gathers final
+        (word_at ws s.callers c.word-flag.result c.word-flag.ensures ∙ c.if-flag-ne0.false) in
+    let last = some-injective _ _ (sym c.take-last.ensures.value ∙ there.2) in
+    let same = same_whole c.in-Whole.structure there.0 c.in-Whole.field-1 there.1 (sym c.in-Whole.is ∙ last) in (
+      _,
+      all_calls g.T.Combined.object g.T.Combined.content s.callers seat.id c.args.callers.items seat.me.0 ws xs c.requires.callers.count c.gather-seat.ensures.gathers final,
+      ap g.T.Combined.content same.0 ∙ there.3,
+    )

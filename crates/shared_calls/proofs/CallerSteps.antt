@@ -63,14 +63,14 @@ module _ {O R : Type 0} where
   unserved (answered op r) x ne never = absurd (ne refl)
   unserved retired x ne never = refl
 
-module _ {T O R : Type 0} (object : SerialObject O R) (content : T → object.State) where
+module _ {T O R : Type 0} (object : SerialObject O R) (content : T → object.State) (fails : T → List O → Type 0) where
   abbrev S : Type 0
   S = State (Slot T O R) (View O R)
 
   -- a seat's view after a step of its own that changes the stage alone
-  module _ (p : ℕ) (s : S) (o : Keeps object content p s) (k id : ℕ) (v : View O R) (me : get_elem? s.views id ≡ some v) (from : v.from ≡ k) (to : v.to ≡ k + 1) where
+  module _ (p : ℕ) (s : S) (o : Keeps object content fails p s) (k id : ℕ) (v : View O R) (me : get_elem? s.views id ≡ some v) (from : v.from ≡ k) (to : v.to ≡ k + 1) where
     mine : (k < p) × Stands p (get_or s.words p 0) o.log o.stage (o.seat k) id v k
-    mine = my object content p s o k id v me from to
+    mine = my object content fails p s o k id v me from to
 
     here : (n : ℕ) → get_or (set s.words k n) k 0 ≡ n
     here n = let less = mine.0 in let wide = o.wide in get_or-set_same s.words k n 0 (omega (arith, less, wide))
@@ -81,18 +81,18 @@ module _ {T O R : Type 0} (object : SerialObject O R) (content : T → object.St
     -- the stage a becomes b, between which no call is served
     changes : (a b : Stage O R) (r : Request O) (n : ℕ) (homes : List (M.Option (Slot T O R))) → o.stage k ≡ a → v.holds ≡ false → IsFree a → IsFree b → served k a ≡ served k b
         → n ≡ word_of b → r ≡ request_of b → length homes ≡ p + 1 → ((u : ℕ) → u ≢ k → get_elem? homes u ≡ get_elem? s.homes u) → HomeIs b (get_elem? homes k)
-        → Keeps object content p record { words = set s.words k n; homes = homes; views = set s.views id (with_request r v) }
+        → Keeps object content fails p record { words = set s.words k n; homes = homes; views = set s.views id (with_request r v) }
     changes a b r n homes is idle_v before after calls word asks slots else home =
-        own_step object content p s o k id v (with_request r v) (set s.words k n) homes b me from to idle_v (λ _. subst IsFree (sym is) before) after refl refl idle_v refl
+        own_step object content fails p s o k id v (with_request r v) (set s.words k n) homes b me from to idle_v (λ _. subst IsFree (sym is) before) after refl refl idle_v refl
         (length-set s.words k n ∙ o.wide) slots (λ u ne. get_or-set_other s.words k u n 0 ne) else (here n ∙ word) home asks
         (mine.1.made ∙ ap (λ l. made_by v k ++ l) (ap (served k) is ∙ calls)) (mine.1.own (omega (arith, from, to)))
         (let was = o.sees id v me in record { seen = was.seen; heard = was.heard; lost = was.lost })
 
   -- a caller takes its slot
   pub enrolls : (p n id : ℕ) (v : View O R) (k : ℕ) → v.from ≡ k → v.to ≡ k + 1 → v.holds ≡ false → v.request ≡ Absent
-      → Allows (Keeps object content p) n id (v, []) k (λ _. 0) (λ _. Enrolls (step n k 0 0 none) (v, []) 0)
+      → Allows (Keeps object content fails p) n id (v, []) k (λ _. 0) (λ _. Enrolls (step n k 0 0 none) (v, []) 0)
   enrolls p n id v k from to idle_v absent s o wide me fits =
-      let m = my object content p s o k id v me from to in
+      let m = my object content fails p s o k id v me from to in
       let is : o.stage k ≡ away = request_of_away (o.stage k) (sym m.1.asks ∙ absent) in
       let home : get_elem? s.homes k ≡ some (some Vacant) = subst (λ (x : Stage O R). HomeIs x (get_elem? s.homes k)) is (o.stages k m.0).1 in (
         with_request Nothing v,
@@ -104,9 +104,9 @@ module _ {T O R : Type 0} (object : SerialObject O R) (content : T → object.St
 
   -- a caller posts its call
   pub posts : (p n id : ℕ) (v : View O R) (k : ℕ) (op : O) → v.from ≡ k → v.to ≡ k + 1 → v.holds ≡ false → v.request ≡ Nothing
-      → Allows (Keeps object content p) n id (v, (k, Posted op) ∷ []) k (λ _. 1) (λ _. Posts (step n k 1 0 none) (v, (k, Posted op) ∷ []) 1)
+      → Allows (Keeps object content fails p) n id (v, (k, Posted op) ∷ []) k (λ _. 1) (λ _. Posts (step n k 1 0 none) (v, (k, Posted op) ∷ []) 1)
   posts p n id v k op from to idle_v nothing s o wide me fits =
-      let m = my object content p s o k id v me from to in
+      let m = my object content fails p s o k id v me from to in
       let is : o.stage k ≡ idle = request_of_idle (o.stage k) (sym m.1.asks ∙ nothing) in (
         with_request (Asks op) v,
         gives,
@@ -127,14 +127,14 @@ module _ {T O R : Type 0} (object : SerialObject O R) (content : T → object.St
 
   -- a caller takes its reply
   pub leaves : (p n id : ℕ) (v : View O R) (xs : List (ℕ × Slot T O R)) (k : ℕ) → v.from ≡ k → v.to ≡ k + 1 → v.holds ≡ false
-      → Allows (Keeps object content p) n id (v, xs) k (λ y. either (eqb y 2) 0 y) (Leaves object (step n k 2 0 none) (v, xs))
+      → Allows (Keeps object content fails p) n id (v, xs) k (λ y. either (eqb y 2) 0 y) (Leaves object (step n k 2 0 none) (v, xs))
   leaves p n id v xs k from to idle_v s o wide me fits =
-      let m = my object content p s o k id v me from to in
+      let m = my object content fails p s o k id v me from to in
       let sees = o.sees id v me in
       let seen = sees.seen in
       let serial : IsSerial object (v.seen ++ seen.0) = subst (IsSerial object) seen.1 o.serial in
       let own = m.1.own (omega (arith, from, to)) in
-      exchanged (get_or s.words k 0) 2 0 (λ y. (w : View O R) × (a : Act (Slot T O R)) × Valid s.homes xs a × Keeps object content p (stepped s k y id xs w a) × Leaves object (step n k 2 0 none) (v, xs) (get_or s.words k 0) (w, carried_after xs a))
+      exchanged (get_or s.words k 0) 2 0 (λ y. (w : View O R) × (a : Act (Slot T O R)) × Valid s.homes xs a × Keeps object content fails p (stepped s k y id xs w a) × Leaves object (step n k 2 0 none) (v, xs) (get_or s.words k 0) (w, carried_after xs a))
       (λ is.
       let got = word_answered (o.stage k) (sym (o.stages k m.0).0 ∙ is) in
       let op : O = got.0 in
@@ -150,7 +150,7 @@ module _ {T O R : Type 0} (object : SerialObject O R) (content : T → object.St
         w,
         takes k (Answered r),
         home,
-        own_step object content p s o k id v w (set s.words k 0) (set s.homes k none) idle me from to idle_v (λ _. subst IsFree (sym got.2) tt) tt refl refl idle_v refl
+        own_step object content fails p s o k id v w (set s.words k 0) (set s.homes k none) idle me from to idle_v (λ _. subst IsFree (sym got.2) tt) tt refl refl idle_v refl
             (length-set s.words k 0 ∙ o.wide) (length-set s.homes k none ∙ o.slots) (λ u ne. get_or-set_other s.words k u 0 0 ne) (λ u ne. set_else s.homes k u none ne)
             (here p s o k id v me from to 0) tt refl (own_now ∙ sym (append-nil (made_by w k))) (ap (calls_by k) (sym seen.1) ∙ own_now)
             (record { seen = ([], seen.1 ∙ sym (append-nil (v.seen ++ seen.0))); heard = sees.heard; lost = sees.lost }),
@@ -179,7 +179,7 @@ module _ {T O R : Type 0} (object : SerialObject O R) (content : T → object.St
         v,
         keeps,
         tt,
-        alike object content p s o k id v me,
+        alike object content fails p s o k id v me,
         (
           (λ is. absurd (ne is)),
           λ _. (
@@ -199,21 +199,21 @@ module _ {T O R : Type 0} (object : SerialObject O R) (content : T → object.St
       ))
 
   -- a look at word i that changes the view alone
-  module _ (p : ℕ) (s : S) (o : Keeps object content p s) (k id : ℕ) (v w : View O R) (i : ℕ) (me : get_elem? s.views id ≡ some v) (from : v.from ≡ k) (to : v.to ≡ k + 1) where
+  module _ (p : ℕ) (s : S) (o : Keeps object content fails p s) (k id : ℕ) (v w : View O R) (i : ℕ) (me : get_elem? s.views id ≡ some v) (from : v.from ≡ k) (to : v.to ≡ k + 1) where
     seeing : v.holds ≡ false → IsFree (o.stage k) → w.from ≡ v.from → w.to ≡ v.to → w.holds ≡ false → w.lost ≡ v.lost → w.request ≡ v.request → made_by w k ≡ made_by v k → calls_by k w.seen ≡ made_by w k
         → Sees p (get_or s.words p 0) o.log w
-        → Keeps object content p record { words = set s.words i (get_or s.words i 0); homes = s.homes; views = set s.views id w }
+        → Keeps object content fails p record { words = set s.words i (get_or s.words i 0); homes = s.homes; views = set s.views id w }
     seeing idle_v free from' to' idle_w lost' request made own sees =
-        let m = my object content p s o k id v me from to in
-        subst (λ (ws : List ℕ). Keeps object content p record { words = ws; homes = s.homes; views = set s.views id w }) (sym (set-get_or s.words i 0))
-        (own_step object content p s o k id v w s.words s.homes (o.stage k) me from to idle_v (λ _. free) free from' to' idle_w lost' o.wide o.slots (λ u ne. refl) (λ u ne. refl)
+        let m = my object content fails p s o k id v me from to in
+        subst (λ (ws : List ℕ). Keeps object content fails p record { words = ws; homes = s.homes; views = set s.views id w }) (sym (set-get_or s.words i 0))
+        (own_step object content fails p s o k id v w s.words s.homes (o.stage k) me from to idle_v (λ _. free) free from' to' idle_w lost' o.wide o.slots (λ u ne. refl) (λ u ne. refl)
         (o.stages k m.0).0 (o.stages k m.0).1 (request ∙ m.1.asks) (m.1.made ∙ ap (λ l. l ++ served k (o.stage k)) (sym made)) own sees)
 
   -- a caller hears the note that it took in
   pub hears : (p n id : ℕ) (v : View O R) (xs : List (ℕ × Slot T O R)) (k i : ℕ) → v.from ≡ k → v.to ≡ k + 1 → v.holds ≡ false → v.request ≡ Nothing
-      → Allows (Keeps object content p) n id (v, xs) i (λ y. y) (Hears object (step n i 0 0 none) (v, xs))
+      → Allows (Keeps object content fails p) n id (v, xs) i (λ y. y) (Hears object (step n i 0 0 none) (v, xs))
   hears p n id v xs k i from to idle_v nothing s o wide me fits =
-      let m = my object content p s o k id v me from to in
+      let m = my object content fails p s o k id v me from to in
       let is : o.stage k ≡ idle = request_of_idle (o.stage k) (sym m.1.asks ∙ nothing) in
       let sees = o.sees id v me in
       let seen = sees.seen in
@@ -231,9 +231,9 @@ module _ {T O R : Type 0} (object : SerialObject O R) (content : T → object.St
 
   -- a caller retires: it asks nothing, or the structure is lost and its call was not served
   pub retires : (p n id : ℕ) (v : View O R) (xs : List (ℕ × Slot T O R)) (k : ℕ) → v.from ≡ k → v.to ≡ k + 1 → v.holds ≡ false → (v.request ≡ Nothing) ⊎ ((v.lost ≡ true) × KnowsItsCalls v)
-      → Allows (Keeps object content p) n id (v, xs) k (λ _. 3) (λ _. Retires (step n k 3 0 none) (v, xs) 3)
+      → Allows (Keeps object content fails p) n id (v, xs) k (λ _. 3) (λ _. Retires (step n k 3 0 none) (v, xs) 3)
   retires p n id v xs k from to idle_v asks s o wide me fits =
-      let m = my object content p s o k id v me from to in
+      let m = my object content fails p s o k id v me from to in
       let sees = o.sees id v me in
       let own = m.1.own (omega (arith, from, to)) in
       let w : View O R = retiring v in
@@ -249,7 +249,7 @@ module _ {T O R : Type 0} (object : SerialObject O R) (content : T → object.St
         w,
         keeps,
         tt,
-        own_step object content p s o k id v w (set s.words k 3) s.homes retired me from to idle_v free tt refl refl idle_v refl
+        own_step object content fails p s o k id v w (set s.words k 3) s.homes retired me from to idle_v free tt refl refl idle_v refl
             (length-set s.words k 3 ∙ o.wide) o.slots (λ u ne. get_or-set_other s.words k u 3 0 ne) (λ u ne. refl) (here p s o k id v me from to 3) tt refl
             (all ∙ (sym now ∙ sym (append-nil (made_by w k)))) (own ∙ (at ∙ sym now)) (record { seen = sees.seen; heard = (sees.seen, tt); lost = sees.lost }),
         refl,
@@ -257,12 +257,12 @@ module _ {T O R : Type 0} (object : SerialObject O R) (content : T → object.St
 
   -- a caller wins the flag, or finds it held, or the structure lost
   pub wins : (p n id : ℕ) (v : View O R) (k : ℕ) → v.from ≡ k → v.to ≡ k + 1 → v.holds ≡ false
-      → Allows (Keeps object content p) n id (v, []) p (λ y. either (eqb y 0) (k + 1) y) (Wins object content (step n p 0 (k + 1) none) (v, []))
+      → Allows (Keeps object content fails p) n id (v, []) p (λ y. either (eqb y 0) (k + 1) y) (Wins object content fails (step n p 0 (k + 1) none) (v, []))
   wins p n id v k from to idle_v s o wide me fits =
-      let m = my object content p s o k id v me from to in
+      let m = my object content fails p s o k id v me from to in
       let less = m.0 in
       let sees = o.sees id v me in
-      exchanged (get_or s.words p 0) 0 (k + 1) (λ y. (w : View O R) × (a : Act (Slot T O R)) × Valid s.homes [] a × Keeps object content p (stepped s p y id [] w a) × Wins object content (step n p 0 (k + 1) none) (v, []) (get_or s.words p 0) (w, carried_after [] a))
+      exchanged (get_or s.words p 0) 0 (k + 1) (λ y. (w : View O R) × (a : Act (Slot T O R)) × Valid s.homes [] a × Keeps object content fails p (stepped s p y id [] w a) × Wins object content fails (step n p 0 (k + 1) none) (v, []) (get_or s.words p 0) (w, carried_after [] a))
       (λ zero_flag.
       let t = o.home zero_flag in
       let w : View O R = winning v o.log in
@@ -270,14 +270,14 @@ module _ {T O R : Type 0} (object : SerialObject O R) (content : T → object.St
         w,
         takes p (Whole t.0 t.1),
         t.2,
-        subst (λ (l : List (Entry O R)). Keeps object content p record { words = set s.words p (k + 1); homes = set s.homes p none; views = set s.views id (winning v l) }) (append-nil o.log)
-            (held_step object content p s o k id v (winning v (o.log ++ [])) (set s.words p (k + 1)) (set s.homes p none) [] o.stage me from to
+        subst (λ (l : List (Entry O R)). Keeps object content fails p record { words = set s.words p (k + 1); homes = set s.homes p none; views = set s.views id (winning v l) }) (append-nil o.log)
+            (held_step object content fails p s o k id v (winning v (o.log ++ [])) (set s.words p (k + 1)) (set s.homes p none) [] o.stage me from to
             (λ x below ne is. absurd (omega (arith, is, zero_flag))) (λ is. absurd (omega (arith, is, zero_flag))) refl refl refl (λ x. refl) refl refl
             (length-set s.words p (k + 1) ∙ o.wide) (length-set s.homes p none ∙ o.slots)
             (λ u below. let ne : u ≢ p = λ e. absurd (omega (arith, e, below)) in
             (get_or-set_other s.words p u (k + 1) 0 ne ∙ (o.stages u below).0, subst (HomeIs (o.stage u)) (sym (set_else s.homes p u none ne)) (o.stages u below).1))
             (subst (IsSerial object) (sym (append-nil o.log)) o.serial) tt (omega (arith, flag_now, less))
-            (λ e. absurd (omega (arith, e, flag_now))) (λ e. absurd (omega (arith, e, flag_now))) (λ e. absurd (omega (arith, e, flag_now, less)))
+            (λ e. absurd (omega (arith, e, flag_now))) (λ e. absurd (omega (arith, e, flag_now))) (λ e. absurd (omega (arith, e, flag_now, less))) (λ e. absurd (omega (arith, e, flag_now, less)))
             (λ x below. refl) (λ x below m is. ap (calls_by x) (append-nil o.log) ∙ is) (λ x below ne is. ne (omega (arith, is, flag_now)))
             (λ e. let f = (sees.lost e).0 in absurd (omega (arith, f, zero_flag))) (λ e. absurd (true_false e))
             (λ _. record {
@@ -302,18 +302,18 @@ module _ {T O R : Type 0} (object : SerialObject O R) (content : T → object.St
         keeps,
         tt,
         lost_now s o me lost,
-        ((λ zero_flag. absurd (ne zero_flag)), (λ _. (o.log, refl)), λ _ other. absurd (other lost)),
+        ((λ zero_flag. absurd (ne zero_flag)), (λ _. (o.log, o.cause lost, refl)), λ _ other. absurd (other lost)),
       ))
-      (λ other. (v, keeps, tt, alike object content p s o p id v me, ((λ zero_flag. absurd (ne zero_flag)), (λ lost. absurd (other lost)), λ _ _. refl))))
+      (λ other. (v, keeps, tt, alike object content fails p s o p id v me, ((λ zero_flag. absurd (ne zero_flag)), (λ lost. absurd (other lost)), λ _ _. refl))))
     where
-      lost_now : (s : S) (o : Keeps object content p s) → get_elem? s.views id ≡ some v → get_or s.words p 0 ≡ p + 1
-          → Keeps object content p record { words = set s.words p (get_or s.words p 0); homes = s.homes; views = set s.views id (found_lost v o.log) }
+      lost_now : (s : S) (o : Keeps object content fails p s) → get_elem? s.views id ≡ some v → get_or s.words p 0 ≡ p + 1
+          → Keeps object content fails p record { words = set s.words p (get_or s.words p 0); homes = s.homes; views = set s.views id (found_lost v o.log) }
       lost_now s o me lost =
-          let m = my object content p s o k id v me from to in
+          let m = my object content fails p s o k id v me from to in
           let less = m.0 in
           let sees = o.sees id v me in
           let w : View O R = found_lost v o.log in
-          subst (λ (ws : List ℕ). Keeps object content p record { words = ws; homes = s.homes; views = set s.views id w }) (sym (set-get_or s.words p 0)) record {
+          subst (λ (ws : List ℕ). Keeps object content fails p record { words = ws; homes = s.homes; views = set s.views id w }) (sym (set-get_or s.words p 0)) record {
             log = o.log;
             stage = o.stage;
             seat = o.seat;
@@ -327,6 +327,7 @@ module _ {T O R : Type 0} (object : SerialObject O R) (content : T → object.St
             home = o.home;
             none_taken = o.none_taken;
             none_owed = o.none_owed;
+            cause = o.cause;
             sees = λ i u e. ⊎_elim (λ t. subst (Sees p (get_or s.words p 0) o.log) t.1 (record { seen = sees.seen; heard = sees.heard; lost = λ _. (lost, refl) })) (λ t. o.sees i u t.1) (at_set s.views id i w u e);
             stands = λ i u x e lo hi. ⊎_elim
                 (λ t.

@@ -20,7 +20,7 @@ use Rattle.shared_calls.specs.declared.shared.Caller.{Caller}
 use Rattle.shared_calls.specs.Serial.{SerialObject}
 use Rattle.shared_calls.specs.Logs.{calls_by, StartsWith, state_after}
 use Rattle.shared_calls.specs.Stages.{Stage, away, idle, posted, taken, owed, answered, retired, request_of, served}
-use Rattle.shared_calls.specs.Rule.{Keeps, made_by}
+use Rattle.shared_calls.specs.Rule.{IsLost, Keeps, made_by}
 use Rattle.shared_calls.specs.Plays.{own_calls, retiring, gathering, spent_view, KnowsItsCalls}
 use Rattle.shared_calls.specs.Views.{number_of, made, seen, IsCallerOf}
 use Rattle.shared_calls.specs.Closing.{AreCallersOf, AreAllCalls, AreFrom, Gathers, HasSlotsBelow}
@@ -164,10 +164,10 @@ module _ {T O R : Type 0} {g : Ghosts T O R} where
       }
 
   -- the seat of the callers so far may take in the next one's
-  pub joins_next : (object : SerialObject O R) (content : T → object.State) (p id other : ℕ) (done : List (Caller T O R g)) (c : Caller T O R g) (v w : View O R)
+  pub joins_next : (object : SerialObject O R) (content : T → object.State) (fails : T → List O → Type 0) (p id other : ℕ) (done : List (Caller T O R g)) (c : Caller T O R g) (v w : View O R)
       → Gathers done v → w ≡ retiring c.seat.me.0 → c.seat.me.0.holds ≡ false → number_of c ≡ length done → 1 ≤ length done
-      → Joins (Keeps object content p) id v other w (gathering v w) spent_view
-  joins_next object content p id other done c v w so_far is idle_c next more =
+      → Joins (Keeps object content fails p) id v other w (gathering v w) spent_view
+  joins_next object content fails p id other done c v w so_far is idle_c next more =
       let own = c.own in
       let c_from = own.0 in
       let c_to = own.1 in
@@ -177,13 +177,13 @@ module _ {T O R : Type 0} {g : Ghosts T O R} where
       let w_to = ap (λ (u : View O R). u.to) is in
       let made_all = ap (λ (l : List (List (Entry O R))). length l) so_far.own in
       let long = length-map done made in
-      gathers object content p id other v w so_far.retired (ap (λ (u : View O R). u.request) is) so_far.idle (ap (λ (u : View O R). u.holds) is ∙ idle_c)
+      gathers object content fails p id other v w so_far.retired (ap (λ (u : View O R). u.request) is) so_far.idle (ap (λ (u : View O R). u.holds) is ∙ idle_c)
       (omega (arith, from, to, more)) (omega (arith, w_from, c_from, next, to)) (omega (arith, w_from, w_to, c_from, c_to)) (omega (arith, made_all, long, from, to))
 
   -- what the last state says of all calls
-  module _ (object : SerialObject O R) (content : T → object.State) (p id : ℕ) (callers : List (Caller T O R g)) (v : View O R) (ws : List ℕ) (xs : List (Slot T O R))
-      (long : length callers ≡ p) (all : Gathers callers v) (final : Final (Seen (Keeps object content p) id v) ws xs) where
-    abbrev pub keeps : Keeps object content p final.0
+  module _ (object : SerialObject O R) (content : T → object.State) (fails : T → List O → Type 0) (p id : ℕ) (callers : List (Caller T O R g)) (v : View O R) (ws : List ℕ) (xs : List (Slot T O R))
+      (long : length callers ≡ p) (all : Gathers callers v) (final : Final (Seen (Keeps object content fails p) id v) ws xs) where
+    abbrev pub keeps : Keeps object content fails p final.0
     keeps = final.1.0
 
     own_calls_of : (k : ℕ) (c : Caller T O R g) → k < length callers → c ≡ get_or callers k c → calls_by k keeps.log ≡ made c
@@ -205,6 +205,17 @@ module _ {T O R : Type 0} {g : Ghosts T O R} where
           (parts_all 0 (length callers) keeps.log (each_so _ _ (λ (e : Entry O R) less. (omega arith, omega (arith, less, long))) keeps.log keeps.known));
       front = λ k c less is. each_map (StartsWith keeps.log) seen callers k c less is (subst (AllByRecursion (StartsWith keeps.log)) all.fronts (keeps.sees id v final.1.1).heard);
     }
+
+    -- where it is not free, the structure is lost
+    pub structure_lost : get_or ws p 0 ≢ 0 → 1 ≤ p → IsLost object content fails keeps.log
+    structure_lost held some_p =
+        let few = keeps.few in
+        let to = all.to in
+        let from = all.from in
+        let same : get_or final.0.words p 0 ≡ get_or ws p 0 = ap (λ (l : List ℕ). get_or l p 0) final.2 in
+        let flag : ℕ = get_or final.0.words p 0 in
+        let none : (k : ℕ) → k < p → flag ≢ k + 1 = λ k less. (keeps.stands id v k final.1.1 (omega (arith, from)) (omega (arith, to, less, long))).1.free all.idle in
+        dite (ℕ_discrete flag (p + 1)) keeps.cause (λ ne. absurd (none (flag - 1) (omega (arith, few, ne, same, held)) (omega (arith, same, held))))
 
     -- where the flag is free, the last slot has the structure
     pub structure_there : get_or ws p 0 ≡ 0 → (t : T) × (rs : Vec R Global) × (get_elem? xs p ≡ some (Whole t rs)) × (content t ≡ state_after object keeps.log)

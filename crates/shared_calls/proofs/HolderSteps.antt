@@ -19,7 +19,7 @@ use Rattle.shared_calls.specs.declared.view.View.{View}
 use Rattle.shared_calls.specs.Serial.{SerialObject, replies_to_all, IsServedInSomeOrder}
 use Rattle.shared_calls.specs.Logs.{entry, ask, entries_of, calls_by, state_after, IsSerial}
 use Rattle.shared_calls.specs.Stages.{Stage, away, idle, posted, taken, owed, answered, retired, word_of, request_of, served, IsFree, HomeIs}
-use Rattle.shared_calls.specs.Rule.{Holds, Keeps, AllPairs, OfOthers}
+use Rattle.shared_calls.specs.Rule.{IsLost, Holds, Keeps, AllPairs, OfOthers}
 use Rattle.shared_calls.specs.Plays.{taking, publishing, answering, releasing, losing, Looks, Publishes, Answers, Releases, Loses}
 use Rattle.shared_calls.proofs.Lists.{put, put_here, put_else, each_so, each_push, each_at, pairs_push, none_in, there_push, last_there, calls_append, entries_each, entries_pairs, entries_far, after_batch, batch_far, batch_each, batch_adds, find, batch_serial, batch_state}
 use Rattle.shared_calls.proofs.Moves.{true_false, my, held_step, alike}
@@ -51,36 +51,36 @@ module _ {O R : Type 0} where
     at zero less is = absurd (ne (ap (λ (y : Entry O R). y.caller) (sym is)))
     at (suc j) less is = (j, omega (arith, less), is)
 
-module _ {T O R : Type 0} (object : SerialObject O R) (content : T → object.State) where
+module _ {T O R : Type 0} (object : SerialObject O R) (content : T → object.State) (fails : T → List O → Type 0) where
   abbrev S : Type 0
   S = State (Slot T O R) (View O R)
 
-  module _ (p : ℕ) (s : S) (o : Keeps object content p s) (k id : ℕ) (v : View O R) (me : get_elem? s.views id ≡ some v) (from : v.from ≡ k) (to : v.to ≡ k + 1) (held : v.holds ≡ true) where
+  module _ (p : ℕ) (s : S) (o : Keeps object content fails p s) (k id : ℕ) (v : View O R) (me : get_elem? s.views id ≡ some v) (from : v.from ≡ k) (to : v.to ≡ k + 1) (held : v.holds ≡ true) where
     flag : ℕ
     flag = get_or s.words p 0
 
     hold : Holds p (get_or s.words p 0) o.log o.stage v k
-    hold = (my object content p s o k id v me from to).1.holds held
+    hold = (my object content fails p s o k id v me from to).1.holds held
 
     unlost : v.lost ≡ false
     unlost = by_case v.lost refl where
       by_case : (b : Bool) → v.lost ≡ b → b ≡ false
       by_case false e = refl
-      by_case true e = let f = ((o.sees id v me).lost e).0 in let g = hold.flag_is in let less = (my object content p s o k id v me from to).0 in absurd (omega (arith, f, g, less))
+      by_case true e = let f = ((o.sees id v me).lost e).0 in let g = hold.flag_is in let less = (my object content fails p s o k id v me from to).0 in absurd (omega (arith, f, g, less))
 
     alone : (x : ℕ) → x < p → x ≢ k → get_or s.words p 0 ≢ x + 1
     alone x below ne is = let g = hold.flag_is in ne (omega (arith, is, g))
 
     sound : get_or s.words p 0 ≢ p + 1
-    sound is = let g = hold.flag_is in let less = (my object content p s o k id v me from to).0 in absurd (omega (arith, is, g, less))
+    sound is = let g = hold.flag_is in let less = (my object content fails p s o k id v me from to).0 in absurd (omega (arith, is, g, less))
 
   -- the holder looks at a caller
   pub looks : (p n id : ℕ) (v : View O R) (xs : List (ℕ × Slot T O R)) (k u : ℕ) → v.from ≡ k → v.to ≡ k + 1 → v.holds ≡ true → u < p → v.looks ≤ u → v.owed ≡ []
-      → Allows (Keeps object content p) n id (v, xs) u (λ y. y) (Looks (step n u 0 0 none) (v, xs))
+      → Allows (Keeps object content fails p) n id (v, xs) u (λ y. y) (Looks (step n u 0 0 none) (v, xs))
   looks p n id v xs k u from to held less next none_due s o wide me fits = dite (ℕ_discrete (get_or s.words u 0) 1)
       (λ one.
       let h = hold p s o k id v me from to held in
-      let m = my object content p s o k id v me from to in
+      let m = my object content fails p s o k id v me from to in
       let mless = m.0 in
       let flag_is = h.flag_is in
       let got = word_posted (o.stage u) (sym (o.stages u less).0 ∙ one)
@@ -96,14 +96,14 @@ module _ {T O R : Type 0} (object : SerialObject O R) (content : T → object.St
         w,
         takes u (Posted op),
         home,
-        subst (λ (ws : List ℕ). Keeps object content p record { words = ws; homes = homes; views = set s.views id w }) (sym (set-get_or s.words u 0))
-            (held_step object content p s o k id v w s.words homes [] stage me from to (alone p s o k id v me from to held) (sound p s o k id v me from to held)
+        subst (λ (ws : List ℕ). Keeps object content fails p record { words = ws; homes = homes; views = set s.views id w }) (sym (set-get_or s.words u 0))
+            (held_step object content fails p s o k id v w s.words homes [] stage me from to (alone p s o k id v me from to held) (sound p s o k id v me from to held)
             refl refl refl (λ x. refl) refl refl o.wide (length-set s.homes u none ∙ o.slots)
             (λ x below. dite (ℕ_discrete x u)
             (λ e. (ap (λ y. get_or s.words y 0) e ∙ (one ∙ ap word_of (sym (ap stage e ∙ here))), subst (λ y. HomeIs y (get_elem? homes x)) (sym (ap stage e ∙ here)) tt))
             (λ ne. ((o.stages x below).0 ∙ ap word_of (sym (else x ne)), subst (λ y. HomeIs y (get_elem? homes x)) (sym (else x ne)) (subst (HomeIs (o.stage x)) (sym (set_else s.homes u x none ne)) (o.stages x below).1))))
             (subst (IsSerial object) (sym (append-nil o.log)) o.serial) tt o.few
-            (λ e. absurd (omega (arith, e, flag_is))) (λ e. absurd (omega (arith, e, flag_is))) (λ e. absurd (sound p s o k id v me from to held e))
+            (λ e. absurd (omega (arith, e, flag_is))) (λ e. absurd (omega (arith, e, flag_is))) (λ e. absurd (sound p s o k id v me from to held e)) (λ e. absurd (sound p s o k id v me from to held e))
             (λ x below. dite (ℕ_discrete x u) (λ e. ap request_of (ap stage e ∙ here) ∙ sym (ap request_of (ap o.stage e ∙ got.1))) (λ ne. ap request_of (else x ne)))
             (λ x below m is. ap (calls_by x) (append-nil o.log) ∙ (is ∙ ap (λ l. m ++ l) (dite (ℕ_discrete x u)
             (λ e. ap (served x) (ap o.stage e ∙ got.1) ∙ sym (ap (served x) (ap stage e ∙ here))) (λ ne. ap (served x) (sym (else x ne))))))
@@ -124,7 +124,7 @@ module _ {T O R : Type 0} (object : SerialObject O R) (content : T → object.St
             })),
         ((λ _. (op, refl)), λ ne. absurd (ne one)),
       ))
-      (λ ne. (v, keeps, tt, alike object content p s o u id v me, ((λ one. absurd (ne one)), λ _. refl)))
+      (λ ne. (v, keeps, tt, alike object content fails p s o u id v me, ((λ one. absurd (ne one)), λ _. refl)))
     where
       taken_op : (a b : O) → let x : Stage O R = taken a in x ≡ taken b → a ≡ b
       taken_op a b e = cc
@@ -135,10 +135,10 @@ module _ {T O R : Type 0} (object : SerialObject O R) (content : T → object.St
   -- the batch counts as served
   pub publishes : (p n id : ℕ) (v : View O R) (t : T) (rs : Vec R Global) (more : List (ℕ × Slot T O R)) (k : ℕ) → v.from ≡ k → v.to ≡ k + 1 → v.holds ≡ true → v.owed ≡ []
       → IsServedInSomeOrder object (state_after object v.log) (map (λ (a : Asked O). a.op) v.taken) rs.items (content t)
-      → Allows (Keeps object content p) n id (v, (p, Whole t rs) ∷ more) p (λ y. y) (Publishes object content (step n p 0 0 none) (v, (p, Whole t rs) ∷ more))
+      → Allows (Keeps object content fails p) n id (v, (p, Whole t rs) ∷ more) p (λ y. y) (Publishes object content (step n p 0 0 none) (v, (p, Whole t rs) ∷ more))
   publishes p n id v t rs more k from to held none_due is s o wide me fits =
       let h = hold p s o k id v me from to held in
-      let m = my object content p s o k id v me from to in
+      let m = my object content fails p s o k id v me from to in
       let flag_is = h.flag_is in
       let es : List (Entry O R) = entries_of v.taken rs.items in
       let got = served_entries object (state_after object v.log) v.taken rs.items (content t) is in
@@ -160,14 +160,14 @@ module _ {T O R : Type 0} (object : SerialObject O R) (content : T → object.St
         w,
         keeps,
         tt,
-        subst (λ (ws : List ℕ). Keeps object content p record { words = ws; homes = s.homes; views = set s.views id w }) (sym (set-get_or s.words p 0))
-            (held_step object content p s o k id v w s.words s.homes batch stage me from to (alone p s o k id v me from to held) (sound p s o k id v me from to held)
+        subst (λ (ws : List ℕ). Keeps object content fails p record { words = ws; homes = s.homes; views = set s.views id w }) (sym (set-get_or s.words p 0))
+            (held_step object content fails p s o k id v w s.words s.homes batch stage me from to (alone p s o k id v me from to held) (sound p s o k id v me from to held)
             refl refl refl (λ x. refl) refl refl o.wide o.slots
             (λ x below. elim (same x) [
               | inl f ↦ ((o.stages x below).0 ∙ (ap word_of f.1.1.0 ∙ sym (ap word_of f.1.1.1.0)), subst (λ y. HomeIs y (get_elem? s.homes x)) (sym f.1.1.1.0) tt)
               | inr g ↦ ((o.stages x below).0 ∙ ap word_of (sym g.1), subst (λ y. HomeIs y (get_elem? s.homes x)) (sym g.1) (o.stages x below).1)
             ])
-            serial known o.few (λ e. absurd (omega (arith, e, flag_is))) (λ e. absurd (omega (arith, e, flag_is))) (λ e. absurd (sound p s o k id v me from to held e))
+            serial known o.few (λ e. absurd (omega (arith, e, flag_is))) (λ e. absurd (omega (arith, e, flag_is))) (λ e. absurd (sound p s o k id v me from to held e)) (λ e. absurd (sound p s o k id v me from to held e))
             (λ x below. elim (same x) [
               | inl f ↦ ap request_of f.1.1.1.0 ∙ sym (ap request_of f.1.1.0)
               | inr g ↦ ap request_of g.1
@@ -216,10 +216,10 @@ module _ {T O R : Type 0} (object : SerialObject O R) (content : T → object.St
 
   -- the holder answers a caller
   pub answers : (p n id : ℕ) (v : View O R) (xs : List (ℕ × Slot T O R)) (k : ℕ) (e : Entry O R) (es : List (Entry O R)) → v.from ≡ k → v.to ≡ k + 1 → v.holds ≡ true → v.owed ≡ e ∷ es
-      → Allows (Keeps object content p) n id (v, (e.caller, Answered e.reply) ∷ xs) e.caller (λ _. 2) (λ _. Answers (step n e.caller 2 0 none) (v, (e.caller, Answered e.reply) ∷ xs) 2)
+      → Allows (Keeps object content fails p) n id (v, (e.caller, Answered e.reply) ∷ xs) e.caller (λ _. 2) (λ _. Answers (step n e.caller 2 0 none) (v, (e.caller, Answered e.reply) ∷ xs) 2)
   answers p n id v xs k e es from to held due s o wide me fits =
       let h = hold p s o k id v me from to held in
-      let m = my object content p s o k id v me from to in
+      let m = my object content fails p s o k id v me from to in
       let flag_is = h.flag_is in
       let j : ℕ = e.caller in
       let slot : M.Option (Slot T O R) = some (Answered e.reply) in
@@ -240,13 +240,13 @@ module _ {T O R : Type 0} (object : SerialObject O R) (content : T → object.St
         w,
         gives,
         tt,
-        held_step object content p s o k id v w ws homes [] stage me from to (alone p s o k id v me from to held) (sound p s o k id v me from to held)
+        held_step object content fails p s o k id v w ws homes [] stage me from to (alone p s o k id v me from to held) (sound p s o k id v me from to held)
             refl refl refl (λ x. refl) refl refl (length-set s.words j 2 ∙ o.wide) (length-set s.homes j slot ∙ o.slots)
             (λ x below. dite (ℕ_discrete x j)
             (λ is. (ap (λ y. get_or ws y 0) is ∙ (word_here ∙ ap word_of (sym (ap stage is ∙ here))), subst (λ y. HomeIs y (get_elem? homes x)) (sym (ap stage is ∙ here)) (ap (λ y. get_elem? homes y) is ∙ home_here)))
             (λ ne. (get_or-set_other s.words j x 2 0 ne ∙ ((o.stages x below).0 ∙ ap word_of (sym (else x ne))), subst (λ y. HomeIs y (get_elem? homes x)) (sym (else x ne)) (subst (HomeIs (o.stage x)) (sym (set_else s.homes j x slot ne)) (o.stages x below).1))))
             (subst (IsSerial object) (sym (append-nil o.log)) o.serial) tt (subst (λ (y : ℕ). y ≤ p + 1) (sym flag_same) o.few)
-            (λ z. absurd (omega (arith, z, flag_same, flag_is))) (λ z. absurd (omega (arith, z, flag_same, flag_is))) (λ z. absurd (sound p s o k id v me from to held (sym flag_same ∙ z)))
+            (λ z. absurd (omega (arith, z, flag_same, flag_is))) (λ z. absurd (omega (arith, z, flag_same, flag_is))) (λ z. absurd (sound p s o k id v me from to held (sym flag_same ∙ z))) (λ z. absurd (sound p s o k id v me from to held (sym flag_same ∙ z)))
             (λ x below. dite (ℕ_discrete x j) (λ is. ap request_of (ap stage is ∙ here) ∙ sym (ap request_of (ap o.stage is ∙ owes.0.1))) (λ ne. ap request_of (else x ne)))
             (λ x below m was. ap (calls_by x) (append-nil o.log) ∙ (was ∙ ap (λ l. m ++ l) (dite (ℕ_discrete x j)
             (λ is. ap (served x) (ap o.stage is ∙ owes.0.1) ∙ sym (ap (served x) (ap stage is ∙ here))) (λ ne. ap (served x) (sym (else x ne))))))
@@ -283,7 +283,7 @@ module _ {T O R : Type 0} (object : SerialObject O R) (content : T → object.St
 
   -- the holder gives the flag back
   pub releases : (p n id : ℕ) (v : View O R) (t : T) (rs : Vec R Global) (k : ℕ) → v.from ≡ k → v.to ≡ k + 1 → v.holds ≡ true → v.taken ≡ [] → v.owed ≡ [] → content t ≡ state_after object v.log
-      → Allows (Keeps object content p) n id (v, (p, Whole t rs) ∷ []) p (λ _. 0) (λ _. Releases (step n p 0 0 none) (v, (p, Whole t rs) ∷ []) 0)
+      → Allows (Keeps object content fails p) n id (v, (p, Whole t rs) ∷ []) p (λ _. 0) (λ _. Releases (step n p 0 0 none) (v, (p, Whole t rs) ∷ []) 0)
   releases p n id v t rs k from to held none_taken none_due content_is s o wide me fits =
       let h = hold p s o k id v me from to held in
       let slot : M.Option (Slot T O R) = some (Whole t rs) in
@@ -293,36 +293,36 @@ module _ {T O R : Type 0} (object : SerialObject O R) (content : T → object.St
         releasing v,
         gives,
         tt,
-        held_step object content p s o k id v (releasing v) (set s.words p 0) (set s.homes p slot) [] o.stage me from to (alone p s o k id v me from to held) (sound p s o k id v me from to held)
+        held_step object content fails p s o k id v (releasing v) (set s.words p 0) (set s.homes p slot) [] o.stage me from to (alone p s o k id v me from to held) (sound p s o k id v me from to held)
             refl refl refl (λ x. refl) refl refl (length-set s.words p 0 ∙ o.wide) (length-set s.homes p slot ∙ o.slots)
             (λ u below. let ne : u ≢ p = λ e. absurd (omega (arith, e, below)) in
             (get_or-set_other s.words p u 0 0 ne ∙ (o.stages u below).0, subst (HomeIs (o.stage u)) (sym (set_else s.homes p u slot ne)) (o.stages u below).1))
             (subst (IsSerial object) (sym (append-nil o.log)) o.serial) tt (omega (arith, flag_now))
             (λ _. (t, rs, home, content_is ∙ ap (state_after object) (sym log_is)))
             (λ _ u below. all_free (o.stage u) (λ op is. none_in v.taken (ask u op) none_taken (h.takes_all u op below is)) (λ op r is. none_in v.owed (entry u op r) none_due (h.owes_all u op r below is)))
-            (λ e. absurd (omega (arith, e, flag_now)))
+            (λ e. absurd (omega (arith, e, flag_now))) (λ e. absurd (omega (arith, e, flag_now)))
             (λ x below. refl) (λ x below m is. ap (calls_by x) (append-nil o.log) ∙ is) (λ x below ne is. absurd (omega (arith, is, flag_now)))
             (λ e. absurd (true_false (sym e ∙ unlost p s o k id v me from to held))) (λ _ is. absurd (omega (arith, is, flag_now))) (λ e. absurd (true_false (sym e))),
         refl,
       )
 
   -- the holder marks the structure as lost
-  pub loses : (p n id : ℕ) (v : View O R) (xs : List (ℕ × Slot T O R)) (k : ℕ) → v.from ≡ k → v.to ≡ k + 1 → v.holds ≡ true → v.owed ≡ []
-      → Allows (Keeps object content p) n id (v, xs) p (λ _. p + 1) (λ _. Loses (step n p (p + 1) 0 none) (v, xs) (p + 1))
-  loses p n id v xs k from to held none_due s o wide me fits =
+  pub loses : (p n id : ℕ) (v : View O R) (xs : List (ℕ × Slot T O R)) (k : ℕ) → v.from ≡ k → v.to ≡ k + 1 → v.holds ≡ true → v.owed ≡ [] → IsLost object content fails v.log
+      → Allows (Keeps object content fails p) n id (v, xs) p (λ _. p + 1) (λ _. Loses (step n p (p + 1) 0 none) (v, xs) (p + 1))
+  loses p n id v xs k from to held none_due lost s o wide me fits =
       let h = hold p s o k id v me from to held in
-      let m = my object content p s o k id v me from to in
+      let m = my object content fails p s o k id v me from to in
       let less = m.0 in
       let flag_now : get_or (set s.words p (p + 1)) p 0 ≡ p + 1 = let wide' = o.wide in get_or-set_same s.words p (p + 1) 0 (omega (arith, wide')) in (
         losing v,
         keeps,
         tt,
-        held_step object content p s o k id v (losing v) (set s.words p (p + 1)) s.homes [] o.stage me from to (alone p s o k id v me from to held) (sound p s o k id v me from to held)
+        held_step object content fails p s o k id v (losing v) (set s.words p (p + 1)) s.homes [] o.stage me from to (alone p s o k id v me from to held) (sound p s o k id v me from to held)
             refl refl refl (λ x. refl) refl refl (length-set s.words p (p + 1) ∙ o.wide) o.slots
             (λ u below. let ne : u ≢ p = λ e. absurd (omega (arith, e, below)) in (get_or-set_other s.words p u (p + 1) 0 ne ∙ (o.stages u below).0, (o.stages u below).1))
             (subst (IsSerial object) (sym (append-nil o.log)) o.serial) tt (omega (arith, flag_now))
             (λ e. absurd (omega (arith, e, flag_now))) (λ e. absurd (omega (arith, e, flag_now)))
-            (λ _ u op r below is. none_in v.owed (entry u op r) none_due (h.owes_all u op r below is))
+            (λ _ u op r below is. none_in v.owed (entry u op r) none_due (h.owes_all u op r below is)) (λ _. subst (IsLost object content fails) (sym (append-nil o.log ∙ h.log_is)) lost)
             (λ x below. refl) (λ x below m is. ap (calls_by x) (append-nil o.log) ∙ is) (λ x below ne is. absurd (omega (arith, is, flag_now, below)))
             (λ _. (flag_now, append-nil o.log ∙ h.log_is)) (λ _ is. absurd (omega (arith, is, flag_now, less))) (λ e. absurd (true_false (sym e))),
         refl,

@@ -20,12 +20,12 @@ module _ {S V : Type 0} where
   pub content_in : (old : Me S V) (v : V) (k j : ℕ) (x y : S) (xs : List (ℕ × S)) → old ≡ (v, (k, x) ∷ xs) → old.1 ≡ (j, y) ∷ rest old.1 → y ≡ x
   content_in old v k j x y xs is to = ap (λ (l : List (ℕ × S)). (get_or l 0 (j, y)).1) (sym to ∙ ap (λ (m : Me S V). m.1) is)
 
-module _ {T O R : Type 0} (object : SerialObject O R) (content : T → object.State) where
+module _ {T O R : Type 0} (object : SerialObject O R) (content : T → object.State) (fails : T → List O → Type 0) where
   pub allowed : (q p : ℕ) → q ≡ p → (n id i : ℕ) (f : ℕ → ℕ) (P : Me (Slot T O R) (View O R) → ℕ → Me (Slot T O R) (View O R) → Type 0) (me me' : Me (Slot T O R) (View O R)) → me ≡ me'
-      → Allows (Keeps object content p) n id me' i f (P me') → Allows (Keeps object content q) n id me i f (P me)
+      → Allows (Keeps object content fails p) n id me' i f (P me') → Allows (Keeps object content fails q) n id me i f (P me)
   allowed q p same n id i f P me me' is h =
-      subst (λ (k : ℕ). Allows (Keeps object content k) n id me i f (P me)) (sym same)
-      (subst (λ (m : Me (Slot T O R) (View O R)). Allows (Keeps object content p) n id m i f (P m)) (sym is) h)
+      subst (λ (k : ℕ). Allows (Keeps object content fails k) n id me i f (P me)) (sym same)
+      (subst (λ (m : Me (Slot T O R) (View O R)). Allows (Keeps object content fails p) n id m i f (P m)) (sym is) h)
 
 module _ {T O R : Type 0} where
   pub same_reply : (a b : R) → let x : Slot T O R = Answered a in x ≡ Answered b → a ≡ b

@@ -17,7 +17,7 @@ use Rattle.shared_calls.specs.declared.view.View.{View}
 use Rattle.shared_calls.specs.Serial.{SerialObject}
 use Rattle.shared_calls.specs.Logs.{calls_by, StartsWith, state_after, IsSerial}
 use Rattle.shared_calls.specs.Stages.{Stage, taken, owed, word_of, request_of, served, IsFree, HomeIs}
-use Rattle.shared_calls.specs.Rule.{Holds, Stands, Sees, Keeps, made_by}
+use Rattle.shared_calls.specs.Rule.{IsLost, Holds, Stands, Sees, Keeps, made_by}
 use Rattle.shared_calls.proofs.Lists.{put, put_here, put_else, each_so, each_append, starts_more}
 
 pub true_false : true ≡ false → ⊥
@@ -49,9 +49,9 @@ module _ {O R : Type 0} where
             (λ ne. h.owes_all u op r less (sym (put_else stage k u b ne) ∙ is));
       }
 
-module _ {T O R : Type 0} (object : SerialObject O R) (content : T → object.State) where
+module _ {T O R : Type 0} (object : SerialObject O R) (content : T → object.State) (fails : T → List O → Type 0) where
   -- the caller of the seat is k alone
-  module _ (p : ℕ) (s : State (Slot T O R) (View O R)) (o : Keeps object content p s) (k id : ℕ) (v : View O R) (me : get_elem? s.views id ≡ some v) (from : v.from ≡ k) (to : v.to ≡ k + 1) where
+  module _ (p : ℕ) (s : State (Slot T O R) (View O R)) (o : Keeps object content fails p s) (k id : ℕ) (v : View O R) (me : get_elem? s.views id ≡ some v) (from : v.from ≡ k) (to : v.to ≡ k + 1) where
     pub my : (k < p) × Stands p (get_or s.words p 0) o.log o.stage (o.seat k) id v k
     my = o.stands id v k me (omega (arith, from)) (omega (arith, to))
 
@@ -62,14 +62,14 @@ module _ {T O R : Type 0} (object : SerialObject O R) (content : T → object.St
     other i x ne sits is = ne (sym sits ∙ (ap o.seat is ∙ my.1.sits))
 
   -- a step by a caller that does not hold the flag: its own stage becomes b
-  pub own_step : (p : ℕ) (s : State (Slot T O R) (View O R)) (o : Keeps object content p s) (k id : ℕ) (v w : View O R) (ws : List ℕ) (hs : List (M.Option (Slot T O R))) (b : Stage O R)
+  pub own_step : (p : ℕ) (s : State (Slot T O R) (View O R)) (o : Keeps object content fails p s) (k id : ℕ) (v w : View O R) (ws : List ℕ) (hs : List (M.Option (Slot T O R))) (b : Stage O R)
       → get_elem? s.views id ≡ some v → v.from ≡ k → v.to ≡ k + 1 → v.holds ≡ false → (get_or s.words p 0 ≢ p + 1 → IsFree (o.stage k)) → IsFree b
       → w.from ≡ v.from → w.to ≡ v.to → w.holds ≡ false → w.lost ≡ v.lost → length ws ≡ p + 1 → length hs ≡ p + 1
       → ((u : ℕ) → u ≢ k → get_or ws u 0 ≡ get_or s.words u 0) → ((u : ℕ) → u ≢ k → get_elem? hs u ≡ get_elem? s.homes u)
       → get_or ws k 0 ≡ word_of b → HomeIs b (get_elem? hs k) → w.request ≡ request_of b
       → calls_by k o.log ≡ made_by w k ++ served k b → calls_by k w.seen ≡ made_by w k
       → Sees p (get_or s.words p 0) o.log w
-      → Keeps object content p record { words = ws; homes = hs; views = set s.views id w }
+      → Keeps object content fails p record { words = ws; homes = hs; views = set s.views id w }
   own_step p s o k id v w ws hs b me from to idle before after from' to' idle' lost' wide slots words homes here home asks made own sees =
       let m = my p s o k id v me from to in
       let less : k < p = m.0 in
@@ -98,6 +98,7 @@ module _ {T O R : Type 0} (object : SerialObject O R) (content : T → object.St
         home = λ zero_flag. let h = o.home (sym flag_same ∙ zero_flag) in (h.0, h.1, home_same ∙ h.2, h.3);
         none_taken = λ zero_flag u below. dite (ℕ_discrete u k) (λ e. subst IsFree (sym (put_here o.stage k u b e)) after)
             (λ ne. subst IsFree (sym (put_else o.stage k u b ne)) (o.none_taken (sym flag_same ∙ zero_flag) u below));
+        cause = λ lost. o.cause (sym flag_same ∙ lost);
         none_owed = λ lost u op r below is. dite (ℕ_discrete u k) (λ e. free_not_owed b op r after (sym (put_here o.stage k u b e) ∙ is))
             (λ ne. o.none_owed (sym flag_same ∙ lost) u op r below (sym (put_else o.stage k u b ne) ∙ is));
         sees = λ i u e. subst (λ (n : ℕ). Sees p n o.log u) (sym flag_same) (⊎_elim (λ t. subst (Sees p (get_or s.words p 0) o.log) t.1 sees) (λ t. o.sees i u t.1) (at_set s.views id i w u e));
@@ -138,7 +139,7 @@ module _ {T O R : Type 0} (object : SerialObject O R) (content : T → object.St
       }
 
   -- a step by the holder of the flag, or by which a caller becomes it
-  pub held_step : (p : ℕ) (s : State (Slot T O R) (View O R)) (o : Keeps object content p s) (k id : ℕ) (v w : View O R) (ws : List ℕ) (hs : List (M.Option (Slot T O R))) (more : List (Entry O R)) (stage : ℕ → Stage O R)
+  pub held_step : (p : ℕ) (s : State (Slot T O R) (View O R)) (o : Keeps object content fails p s) (k id : ℕ) (v w : View O R) (ws : List ℕ) (hs : List (M.Option (Slot T O R))) (more : List (Entry O R)) (stage : ℕ → Stage O R)
       → let flag' : ℕ = get_or ws p 0 in
       let log' : List (Entry O R) = o.log ++ more in
       get_elem? s.views id ≡ some v → v.from ≡ k → v.to ≡ k + 1
@@ -149,13 +150,13 @@ module _ {T O R : Type 0} (object : SerialObject O R) (content : T → object.St
       → IsSerial object log' → AllByRecursion (λ (e : Entry O R). e.caller < p) more → flag' ≤ p + 1
       → (flag' ≡ 0 → (t : T) × (rs : _) × (get_elem? hs p ≡ some (some (Whole t rs))) × (content t ≡ state_after object log'))
       → (flag' ≡ 0 → (u : ℕ) → u < p → IsFree (stage u))
-      → (flag' ≡ p + 1 → (u : ℕ) (op : O) (r : R) → u < p → stage u ≢ owed op r)
+      → (flag' ≡ p + 1 → (u : ℕ) (op : O) (r : R) → u < p → stage u ≢ owed op r) → (flag' ≡ p + 1 → IsLost object content fails log')
       → ((x : ℕ) → x < p → request_of (stage x) ≡ request_of (o.stage x))
       → ((x : ℕ) → x < p → (m : List (Entry O R)) → calls_by x o.log ≡ m ++ served x (o.stage x) → calls_by x log' ≡ m ++ served x (stage x))
       → ((x : ℕ) → x < p → x ≢ k → flag' ≢ x + 1)
       → (w.lost ≡ true → (flag' ≡ p + 1) × (log' ≡ w.log)) → (w.holds ≡ false → flag' ≢ k + 1) → (w.holds ≡ true → Holds p flag' log' stage w k)
-      → Keeps object content p record { words = ws; homes = hs; views = set s.views id w }
-  held_step p s o k id v w ws hs more stage me from to alone sound from' to' asks' made' seen' heard' wide slots stages serial known few home none_taken none_owed asks made others lost free holds =
+      → Keeps object content fails p record { words = ws; homes = hs; views = set s.views id w }
+  held_step p s o k id v w ws hs more stage me from to alone sound from' to' asks' made' seen' heard' wide slots stages serial known few home none_taken none_owed cause asks made others lost free holds =
       let m = my p s o k id v me from to in
       let log' : List (Entry O R) = o.log ++ more in
       record {
@@ -172,6 +173,7 @@ module _ {T O R : Type 0} (object : SerialObject O R) (content : T → object.St
         home = home;
         none_taken = none_taken;
         none_owed = none_owed;
+        cause = cause;
         sees = λ i u e. ⊎_elim
             (λ t.
             let was = o.sees id v me in
@@ -219,8 +221,8 @@ module _ {T O R : Type 0} (object : SerialObject O R) (content : T → object.St
       }
 
   -- a look that changes nothing
-  pub alike : (p : ℕ) (s : State (Slot T O R) (View O R)) (o : Keeps object content p s) (i id : ℕ) (v : View O R) → get_elem? s.views id ≡ some v
-      → Keeps object content p record { words = set s.words i (get_or s.words i 0); homes = s.homes; views = set s.views id v }
+  pub alike : (p : ℕ) (s : State (Slot T O R) (View O R)) (o : Keeps object content fails p s) (i id : ℕ) (v : View O R) → get_elem? s.views id ≡ some v
+      → Keeps object content fails p record { words = set s.words i (get_or s.words i 0); homes = s.homes; views = set s.views id v }
   alike p s o i id v me =
-      subst (λ (ws : List ℕ). Keeps object content p record { words = ws; homes = s.homes; views = set s.views id v }) (sym (set-get_or s.words i 0))
-      (subst (λ (vs : List (View O R)). Keeps object content p record { words = s.words; homes = s.homes; views = vs }) (sym (set_again s.views id v me)) o)
+      subst (λ (ws : List ℕ). Keeps object content fails p record { words = ws; homes = s.homes; views = set s.views id v }) (sym (set-get_or s.words i 0))
+      (subst (λ (vs : List (View O R)). Keeps object content fails p record { words = s.words; homes = s.homes; views = vs }) (sym (set_again s.views id v me)) o)

@@ -25,7 +25,7 @@ threes zero k less = absurd (omega (arith, less))
 threes (suc n) zero less = refl
 threes (suc n) (suc k) less = threes n k (omega (arith, less))
 
-module _ {T O R : Type 0} (object : SerialObject O R) (content : T → object.State) where
+module _ {T O R : Type 0} (object : SerialObject O R) (content : T → object.State) (fails : T → List O → Type 0) where
   vacant_at : (n k : ℕ) (xs : List (Slot T O R)) → k < n → get_elem? (map some (replicate n Vacant ++ xs)) k ≡ some (some Vacant)
   vacant_at zero k xs less = absurd (omega (arith, less))
   vacant_at (suc n) zero xs less = refl
@@ -36,7 +36,7 @@ module _ {T O R : Type 0} (object : SerialObject O R) (content : T → object.St
   whole_at (suc n) x = whole_at n x
 
   pub starts : (p q : ℕ) (t : T) (rs : Vec R Global) → q ≡ p + 1 → content t ≡ object.opening
-      → Keeps object content p (opening (set (replicate q 3) p 0) (replicate p Vacant ++ Whole t rs ∷ []) (first_view p))
+      → Keeps object content fails p (opening (set (replicate q 3) p 0) (replicate p Vacant ++ Whole t rs ∷ []) (first_view p))
   starts p q t rs wide is =
       let three : ℕ = 3 in
       let threes_all : List ℕ = replicate q three in
@@ -62,6 +62,7 @@ module _ {T O R : Type 0} (object : SerialObject O R) (content : T → object.St
         home = λ _. (t, rs, whole_at p (Whole t rs), is);
         none_taken = λ _ w less. tt;
         none_owed = λ lost. absurd (omega (arith, lost, flag));
+        cause = λ lost. absurd (omega (arith, lost, flag));
         sees = λ i u at. subst (Sees p (get_or ws p 0) []) (only_one u (first_view p) i at).1 (record { seen = ([], refl); heard = tt; lost = λ h. absurd (true_false (sym h)) });
         stands = λ i u w at lo hi. let o = only_one u (first_view p) i at in (
           subst (λ (m : ℕ). w < m) (ap (λ (y : View O R). y.to) (sym o.1)) hi,
@@ -78,12 +79,12 @@ module _ {T O R : Type 0} (object : SerialObject O R) (content : T → object.St
 
   -- the first caller can be split off newcomers
   pub can_cut : (p id n t c : ℕ) (m : Me (Slot T O R) (View O R)) → m ≡ (newcomers n t c, []) → n < t
-      → Splits (Keeps object content p) id m.0 (other_callers m.0) (first_caller m.0)
+      → Splits (Keeps object content fails p) id m.0 (other_callers m.0) (first_caller m.0)
   can_cut p id n t c m is less =
       let v : View O R = newcomers n t c in
-      subst (λ (m : Me (Slot T O R) (View O R)). Splits (Keeps object content p) id m.0 (other_callers m.0) (first_caller m.0)) (sym is)
-      (subst (λ (l : View O R). Splits (Keeps object content p) id v l (first_caller v)) (sym (others_are n t c))
-      (subst (λ (r : View O R). Splits (Keeps object content p) id v (newcomers (n + 1) t (c - 1)) r) (sym (first_is n t c)) (cuts object content p id n t c less)))
+      subst (λ (m : Me (Slot T O R) (View O R)). Splits (Keeps object content fails p) id m.0 (other_callers m.0) (first_caller m.0)) (sym is)
+      (subst (λ (l : View O R). Splits (Keeps object content fails p) id v l (first_caller v)) (sym (others_are n t c))
+      (subst (λ (r : View O R). Splits (Keeps object content fails p) id v (newcomers (n + 1) t (c - 1)) r) (sym (first_is n t c)) (cuts object content fails p id n t c less)))
 
 module _ {T O R : Type 0} where
   pub left_then : (m n : Me (Slot T O R) (View O R)) (k t c d : ℕ) → m ≡ (newcomers k t c, []) → n ≡ (other_callers m.0, m.1) → c - 1 ≡ d → n ≡ (newcomers (k + 1) t d, [])

@@ -62,7 +62,7 @@ module _ {O R : Type 0} where
     with_made : ℕ → ℕ → List (List (Entry O R)) → View O R
     with_made from to m = record (newcomers from to 0) { made = m }
 
-module _ {T O R : Type 0} (object : SerialObject O R) (content : T → object.State) where
+module _ {T O R : Type 0} (object : SerialObject O R) (content : T → object.State) (fails : T → List O → Type 0) where
   abbrev S : Type 0
   S = State (Slot T O R) (View O R)
 
@@ -79,7 +79,7 @@ module _ {T O R : Type 0} (object : SerialObject O R) (content : T → object.St
   }
 
   -- a caller is split off
-  pub cuts : (p id f t c : ℕ) → f < t → let v : View O R = newcomers f t c in Splits (Keeps object content p) id v (newcomers (f + 1) t (c - 1)) (newcomers f (f + 1) 1)
+  pub cuts : (p id f t c : ℕ) → f < t → let v : View O R = newcomers f t c in Splits (Keeps object content fails p) id v (newcomers (f + 1) t (c - 1)) (newcomers f (f + 1) 1)
   cuts p id f t c room s o me =
       let z = length s.views in
       let v : View O R = newcomers f t c in
@@ -108,6 +108,7 @@ module _ {T O R : Type 0} (object : SerialObject O R) (content : T → object.St
         home = o.home;
         none_taken = o.none_taken;
         none_owed = o.none_owed;
+        cause = o.cause;
         sees = λ i u e. elim (find i u e) [
           | inl q ↦ subst (Sees p flag o.log) q.1 (record { seen = (o.log, refl); heard = tt; lost = λ e. absurd (true_false (sym e)) })
           | inr (inl q) ↦ o.sees i u q.1
@@ -137,12 +138,12 @@ module _ {T O R : Type 0} (object : SerialObject O R) (content : T → object.St
       }
 
   -- a note is split off
-  pub tells : (p id : ℕ) (v : View O R) → Splits (Keeps object content p) id v v (note_of v)
+  pub tells : (p id : ℕ) (v : View O R) → Splits (Keeps object content fails p) id v v (note_of v)
   tells p id v s o me =
       let z = length s.views in
       let note : View O R = note_of v in
       let flag : ℕ = get_or s.words p 0 in
-      subst (λ (vs : List (View O R)). Keeps object content p record { words = s.words; homes = s.homes; views = vs ++ note ∷ [] }) (sym (set_again s.views id v me)) record {
+      subst (λ (vs : List (View O R)). Keeps object content fails p record { words = s.words; homes = s.homes; views = vs ++ note ∷ [] }) (sym (set_again s.views id v me)) record {
         log = o.log;
         stage = o.stage;
         seat = o.seat;
@@ -156,6 +157,7 @@ module _ {T O R : Type 0} (object : SerialObject O R) (content : T → object.St
         home = o.home;
         none_taken = o.none_taken;
         none_owed = o.none_owed;
+        cause = o.cause;
         sees = λ i u e. ⊎_elim (λ t. o.sees i u t)
             (λ t. let was = o.sees id v me in subst (Sees p flag o.log) t.0 (record { seen = was.seen; heard = tt; lost = λ e. absurd (true_false (sym e)) })) (at_last_or s.views note u i e);
         stands = λ i u w e lo hi. ⊎_elim (λ t. o.stands i u w t lo hi)
@@ -169,7 +171,7 @@ module _ {T O R : Type 0} (object : SerialObject O R) (content : T → object.St
       (λ t. ⊎_elim (λ q. inr (inl q)) (λ q. inr (inr (t.0, q.0, q.1))) (at_set views id i both u t.1)) (at_set (set views id both) other i spent u e)
 
   -- a note is taken in
-  pub hears_note : (p id other : ℕ) (v w : View O R) → Joins (Keeps object content p) id v other w (hearing v w) spent_view
+  pub hears_note : (p id other : ℕ) (v w : View O R) → Joins (Keeps object content fails p) id v other w (hearing v w) spent_view
   hears_note p id other v w s o me ne there =
       let both : View O R = hearing v w in
       let spent : View O R = spent_view in
@@ -191,6 +193,7 @@ module _ {T O R : Type 0} (object : SerialObject O R) (content : T → object.St
         home = o.home;
         none_taken = o.none_taken;
         none_owed = o.none_owed;
+        cause = o.cause;
         sees = λ i u e. elim (find i u e) [
           | inl q ↦ subst (Sees p flag o.log) q.1 (record { seen = (o.log, refl); heard = tt; lost = λ e. absurd (true_false (sym e)) })
           | inr (inl q) ↦ let was = o.sees id v me in subst (Sees p flag o.log) q.1 (record { seen = was.seen; heard = ((o.sees other w there').seen, tt); lost = was.lost })
@@ -215,7 +218,7 @@ module _ {T O R : Type 0} (object : SerialObject O R) (content : T → object.St
       }
 
   -- the seat of a caller goes on without its slots
-  pub parts : (p id k : ℕ) (v : View O R) → v.from ≡ k → v.to ≡ k + 1 → Splits (Keeps object content p) id v spent_view v
+  pub parts : (p id k : ℕ) (v : View O R) → v.from ≡ k → v.to ≡ k + 1 → Splits (Keeps object content fails p) id v spent_view v
   parts p id k v from to s o me =
       let z = length s.views in
       let spent : View O R = spent_view in
@@ -242,6 +245,7 @@ module _ {T O R : Type 0} (object : SerialObject O R) (content : T → object.St
         home = o.home;
         none_taken = o.none_taken;
         none_owed = o.none_owed;
+        cause = o.cause;
         sees = λ i u e. elim (find i u e) [
           | inl q ↦ subst (Sees p flag o.log) q.1 (record { seen = (o.log, refl); heard = tt; lost = λ e. absurd (true_false (sym e)) })
           | inr (inl q) ↦ o.sees i u q.1
@@ -266,7 +270,7 @@ module _ {T O R : Type 0} (object : SerialObject O R) (content : T → object.St
   -- a seat of callers that have retired takes in that of its neighbour
   module _ (p id other : ℕ) (v w : View O R) (retired_v : v.request ≡ Retired) (retired_w : w.request ≡ Retired) (idle_v : v.holds ≡ false) (idle_w : w.holds ≡ false)
       (some_v : v.from < v.to) (next : w.from ≡ v.to) (some_w : w.from < w.to) (many : length v.made ≡ v.to - v.from)
-      (s : S) (o : Keeps object content p s) (me : get_elem? s.views id ≡ some v) (there : get_elem? s.views other ≡ some w) (ne : ¬ (other ≡ id)) where
+      (s : S) (o : Keeps object content fails p s) (me : get_elem? s.views id ≡ some v) (there : get_elem? s.views other ≡ some w) (ne : ¬ (other ≡ id)) where
     -- what the seat knows of a caller of either
     gathered : (x : ℕ) → v.from ≤ x → x < w.to → (x < p) × Stands p (get_or s.words p 0) o.log o.stage (hand_over o.seat other id x) id (gathering v w) x
     gathered x lo hi = dite (dec_le v.to x)
@@ -299,7 +303,7 @@ module _ {T O R : Type 0} (object : SerialObject O R) (content : T → object.St
 
   pub gathers : (p id other : ℕ) (v w : View O R) → v.request ≡ Retired → w.request ≡ Retired → v.holds ≡ false → w.holds ≡ false
       → v.from < v.to → w.from ≡ v.to → w.from < w.to → length v.made ≡ v.to - v.from
-      → Joins (Keeps object content p) id v other w (gathering v w) spent_view
+      → Joins (Keeps object content fails p) id v other w (gathering v w) spent_view
   gathers p id other v w retired_v retired_w idle_v idle_w some_v next some_w many s o me ne there =
       let both : View O R = gathering v w in
       let spent : View O R = spent_view in
@@ -323,6 +327,7 @@ module _ {T O R : Type 0} (object : SerialObject O R) (content : T → object.St
         home = o.home;
         none_taken = o.none_taken;
         none_owed = o.none_owed;
+        cause = o.cause;
         sees = λ i u e. elim (find i u e) [
           | inl q ↦ subst (Sees p flag o.log) q.1 (record { seen = (o.log, refl); heard = tt; lost = λ e. absurd (true_false (sym e)) })
           | inr (inl q) ↦

@@ -1,8 +1,8 @@
 -- What contracts see of a shared structure, its callers and notes, and what a call owes its caller.
-use Rattle.std.specs.Prelude.{◌≡◌, ℕ, ◌+◌, List, [], ◌∷◌, ◌++◌, map}
+use Rattle.std.specs.Prelude.{◌≡◌, ℕ, ◌+◌, List, [], ◌∷◌, ◌++◌, map, true, false}
 use Rattle.shared_calls.specs.declared.view.Entry.{Entry}
 use Rattle.shared_calls.specs.declared.view.Request.TheVariants.{Nothing, Asks}
-use Rattle.shared_calls.specs.Plays.{own_calls}
+use Rattle.shared_calls.specs.Plays.{own_calls, KnowsItsCalls}
 use Rattle.shared_calls.specs.declared.view.Asked.{Asked}
 use Rattle.shared_calls.specs.declared.view.Slot.{Slot}
 use Rattle.shared_calls.specs.declared.view.Slot.TheVariants.{Vacant}
@@ -53,6 +53,15 @@ module _ {O R : Type 0} where
     pub goes_on : seen_now ≡ seen ++ since
     pub hears : StartsWith seen_now told
     pub none : calls_by n since ≡ []
+
+  -- A caller that found the structure lost: the calls of its log are all calls, of which it has seen a front, and it knows
+  -- its own among them.
+  pub record HasStopped (n : ℕ) (v : View O R) : Type 0 where
+    pub stands : (v.from ≡ n) × (v.to ≡ n + 1)
+    pub lost : v.lost ≡ true
+    pub idle : v.holds ≡ false
+    pub front : StartsWith v.log v.seen
+    pub own : KnowsItsCalls v
 
   -- the same of the view of a caller that waits, before and after
   abbrev pub IsAnswered : SerialObject O R → View O R → R → View O R → Type 0

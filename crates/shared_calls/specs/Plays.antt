@@ -11,7 +11,7 @@ use Rattle.shared_calls.specs.declared.view.Slot.TheVariants.{Vacant, Posted, An
 use Rattle.shared_calls.specs.declared.view.View.{View}
 use Rattle.shared_calls.specs.Serial.{SerialObject}
 use Rattle.shared_calls.specs.Logs.{entry, ask, entries_of, calls_by, StartsWith, state_after, IsSerial}
-use Rattle.shared_calls.specs.Rule.{newcomers, made_by}
+use Rattle.shared_calls.specs.Rule.{IsLost, newcomers, made_by}
 
 module _ {O R : Type 0} where
   -- the two parts of a split: the first caller, and the others
@@ -140,9 +140,9 @@ module _ {T O R : Type 0} where
         → (batch : List (Entry O R)) × (content t ≡ state_after object (m.0.log ++ batch))
         × (n ≡ (publishing m.0 batch rs.items, m.1))
 
-    abbrev pub Wins : (T → object.State) → Told T O R
-    Wins content st m found n =
+    abbrev pub Wins : (T → object.State) → (T → List O → Type 0) → Told T O R
+    Wins content fails st m found n =
         (found ≡ 0 → (t : T) × (rs : _) × (log : List (Entry O R)) × (content t ≡ state_after object log)
         × (n ≡ (winning m.0 log, (st.word, Whole t rs) ∷ m.1)))
-        × (found ≡ st.word + 1 → (log : List (Entry O R)) × (n ≡ (found_lost m.0 log, m.1)))
+        × (found ≡ st.word + 1 → (log : List (Entry O R)) × IsLost object content fails log × (n ≡ (found_lost m.0 log, m.1)))
         × (found ≢ 0 → found ≢ st.word + 1 → n ≡ m)

@@ -1,6 +1,6 @@
 -- The rule of the table. Of p callers, word w and slot w are those of caller w. Word p is the flag: 0 where it is free,
 -- one more than its holder, or p + 1 where the structure is lost. Slot p has the structure.
-use Rattle.std.specs.Prelude.{◌≡◌, ◌≢◌, ℕ, ◌+◌, ◌-◌, ◌<◌, ◌≤◌, List, [], ◌∷◌, ◌++◌, length, replicate, slice_index, slice_index_or, true, false, Contains}
+use Rattle.std.specs.Prelude.{◌≡◌, ◌≢◌, ℕ, ◌+◌, ◌-◌, ◌<◌, ◌≤◌, List, [], ◌∷◌, ◌++◌, length, map, replicate, slice_index, slice_index_or, true, false, Contains}
 use Rattle.std.specs.List.{AllByRecursion}
 use mathlib.Core.Option.{some}
 use lib.ListN.{get_elem?}
@@ -73,7 +73,14 @@ module _ {O R : Type 0} where
     pub heard : AllByRecursion (StartsWith log) v.heard
     pub lost : v.lost ≡ true → (flag ≡ p + 1) × (log ≡ v.log)
 
-module _ {T O R : Type 0} (object : SerialObject O R) (content : T → object.State) where
+module _ {T O R : Type 0} (object : SerialObject O R) (content : T → object.State) (fails : T → List O → Type 0) where
+  -- The structure is lost: with the content after these calls, it failed to serve the calls that were asked next.
+  pub record IsLost (log : List (Entry O R)) : Type 0 where
+    pub structure : T
+    pub asked : List (Asked O)
+    pub content_is : content structure ≡ state_after object log
+    pub failed : fails structure (map (λ a. a.op) asked)
+
   pub record Keeps (p : ℕ) (s : State (Slot T O R) (View O R)) : Type 0 where
     pub log : List (Entry O R)
     pub stage : ℕ → Stage O R
@@ -91,6 +98,7 @@ module _ {T O R : Type 0} (object : SerialObject O R) (content : T → object.St
     pub none_taken : slice_index s.words p ≡ 0 → (w : ℕ) → w < p → IsFree (stage w)
     -- where the structure is lost, each call that was served is answered
     pub none_owed : slice_index s.words p ≡ p + 1 → (w : ℕ) (op : O) (reply : R) → w < p → stage w ≢ owed op reply
+    pub cause : slice_index s.words p ≡ p + 1 → IsLost log
     pub sees : (id : ℕ) (v : View O R) → get_elem? s.views id ≡ some v → Sees p (slice_index s.words p) log v
     pub stands : (id : ℕ) (v : View O R) (w : ℕ) → get_elem? s.views id ≡ some v → v.from ≤ w → w < v.to
         → (w < p) × Stands p (slice_index s.words p) log stage (seat w) id v w

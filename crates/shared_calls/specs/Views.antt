@@ -1,14 +1,33 @@
 -- What contracts see of a shared structure and its callers.
-use Rattle.std.specs.Prelude.{ℕ, ◌≡◌, ◌<◌, List, [], length, slice_index_or, Bool, false}
+use Rattle.std.specs.Prelude.{ℕ, ◌≡◌, ◌<◌, ◌≤◌, vec_len, vec_capacity, List, [], length, slice_index_or, Bool, false}
 use Rattle.shared_calls.specs.declared.shared.Shared.{Shared}
 use Rattle.shared_calls.specs.declared.shared.Caller.{Caller}
 use Rattle.shared_calls.specs.declared.shared.Note.{Note}
+use Rattle.shared_calls.specs.declared.shared.Room.{Room}
+use Rattle.shared_calls.specs.declared.shared.Failed.{Failed}
+use Rattle.shared_calls.specs.declared.shared.Failed.TheVariants.{Refused, Lost}
+use Rattle.std.specs.declared.option.Option.{Option}
 use Rattle.shared_calls.specs.declared.view.Entry.{Entry}
 use Rattle.shared_calls.specs.declared.combined.Combined.{Ghosts}
 use Rattle.shared_calls.specs.Plays.{own_calls}
 
 abbrev pub number_of_callers : {T O R : Type 0} → Shared T O R → ℕ
 number_of_callers s = s.callers
+
+module _ {O R : Type 0} where
+  -- what holds where the call was refused, of the operation that comes back; and where the structure is lost, of the reply
+  abbrev pub IfRefused : (O → Type 0) → Failed O R → Type 0
+  IfRefused P (Refused op) = P op
+  IfRefused P (Lost reply) = Unit {0}
+
+  abbrev pub IfLost : (Option R → Type 0) → Failed O R → Type 0
+  IfLost P (Refused op) = Unit {0}
+  IfLost P (Lost reply) = P reply
+
+-- empty, with room for the calls of n callers
+abbrev pub HasRoom : {O : Type 0} → ℕ → Room O → Type 0
+HasRoom n room = (room.callers.items ≡ []) × (room.ops.items ≡ []) × (vec_len room.callers ≡ 0) × (vec_len room.ops ≡ 0)
+    × (n ≤ vec_capacity room.callers) × (n ≤ vec_capacity room.ops)
 
 module _ {T O R : Type 0} {g : Ghosts T O R} where
   abbrev pub number_of : Caller T O R g → ℕ

@@ -4,13 +4,14 @@ ghost use Rattle.std.specs.List.{AllByRecursion};
 ghost use Rattle.shared_calls.specs.declared.view.Asked.{Asked as AskedOf};
 ghost use Rattle.shared_calls.specs.declared.view.View.{View as ViewOf};
 ghost use Rattle.shared_calls.specs.declared.view.Slot.TheVariants.{Vacant};
-ghost use Rattle.shared_calls.specs.Logs.{state_after};
-ghost use Rattle.shared_calls.specs.Plays.{releasing, own_calls, IsLeft, KnowsItsCalls};
-ghost use Rattle.shared_calls.specs.Callers.{in_hand, collected, owing, IsAnswered, IsRefused, IsServed, IsUnserved};
-ghost use Rattle.shared_calls.specs.Views.{IsCallerOf, number_of, made, seen, is_lost};
+ghost use Rattle.shared_calls.specs.Logs.{StartsWith, state_after};
+ghost use Rattle.shared_calls.specs.Plays.{releasing, own_calls, IsLeft};
+ghost use Rattle.shared_calls.specs.Callers.{in_hand, collected, owing, HasStopped, IsAnswered, IsRefused, IsServed, IsUnserved};
+ghost use Rattle.shared_calls.specs.Rule.{IsLost};
+ghost use Rattle.shared_calls.specs.Views.{IsCallerOf, HasRoom, IfRefused, IfLost, number_of, made, seen, is_lost};
 
 use crate::combined::Combined;
-use crate::shared::{Caller, Lost, Shared};
+use crate::shared::{Caller, Failed, Room, Shared};
 use crate::steps::Won;
 use crate::view::{Slot, View};
 use atomic_table::Seat;
@@ -28,24 +29,35 @@ impl<T: Combined> Caller<T> {
 }
 
 impl<T: Combined> Shared<T> {
+    /// Room for a batch of all callers.
+    fn room(&self) -> Result<Room<T::Op>, AllocError>
+        ensures { IfOk result (HasRoom self.now.callers) }
+    {
+        let callers = Vec::with_capacity(self.alloc, self.callers)?;
+        let ops = Vec::with_capacity(self.alloc, self.callers)?;
+        Ok(Room { callers, ops })
+    }
+
     /// Takes the calls that are posted: their callers and their operations.
     fn collect(
         &self,
         seat: &mut Seat<Slot<T, T::Op, T::Reply>, View<T::Op, T::Reply>>,
-    ) -> Result<(Vec<usize>, Vec<T::Op>), AllocError>
+        room: Room<T::Op>,
+    ) -> (Vec<usize>, Vec<T::Op>)
         requires table { seat.old.table_id ≡ self.now.table.shared.table_id }
         requires holds { (seat.old.me.0.to ≡ seat.old.me.0.from + 1) × (seat.old.me.0.holds ≡ true) }
         requires begins { (seat.old.me.0.looks ≡ 0) × (seat.old.me.0.taken ≡ []) × (seat.old.me.0.owed ≡ []) }
         requires slot { seat.old.me.1 ≡ (self.now.callers, Vacant) ∷ [] }
+        requires room { HasRoom self.now.callers room }
         ensures table { seat.new.table_id ≡ seat.old.table_id }
-        ensures below { IfOk result (λ r. AllByRecursion (λ u. u < self.now.callers) r.0.items) }
-        ensures took { IfOk result (λ r. (looks : ℕ) × (taken : List (AskedOf T.Op))
+        ensures below { AllByRecursion (λ u. u < self.now.callers) result.0.items }
+        ensures took { (looks : ℕ) × (taken : List (AskedOf T.Op))
             × (seat.new.me ≡ (collected seat.old.me.0 looks taken, (self.now.callers, Vacant) ∷ in_hand (map (λ a. a.caller) taken)))
-            × (r.0.items ≡ map (λ a. a.caller) taken) × (r.1.items ≡ map (λ a. a.op) taken)) }
-        ensures untouched { OnErr result (seat.new.me ≡ seat.old.me) }
+            × (result.0.items ≡ map (λ a. a.caller) taken) × (result.1.items ≡ map (λ a. a.op) taken) }
     {
-        let mut callers = Vec::with_capacity(self.alloc, self.callers)?;
-        let mut ops = Vec::with_capacity(self.alloc, self.callers)?;
+        let Room { callers, ops } = room;
+        let mut callers = callers;
+        let mut ops = ops;
         for caller in 0..self.callers {
             match self.look(seat, caller) {
                 Some(op) => {
@@ -55,7 +67,7 @@ impl<T: Combined> Shared<T> {
                 None => {}
             }
         }
-        Ok((callers, ops))
+        (callers, ops)
     }
 
     /// Answers these callers, in their order.
@@ -85,22 +97,93 @@ impl<T: Combined> Shared<T> {
         &self,
         seat: &mut Seat<Slot<T, T::Op, T::Reply>, View<T::Op, T::Reply>>,
         structure: T,
+        room: Room<T::Op>,
     ) -> Result<(), AllocError>
         requires table { seat.old.table_id ≡ self.now.table.shared.table_id }
         requires holds { (seat.old.me.0.to ≡ seat.old.me.0.from + 1) × (seat.old.me.0.holds ≡ true) }
         requires begins { (seat.old.me.0.looks ≡ 0) × (seat.old.me.0.taken ≡ []) × (seat.old.me.0.owed ≡ []) }
         requires slot { seat.old.me.1 ≡ (self.now.callers, Vacant) ∷ [] }
         requires content { T.content structure ≡ state_after T.object seat.old.me.0.log }
+        requires room { HasRoom self.now.callers room }
         ensures table { seat.new.table_id ≡ seat.old.table_id }
         ensures ok { OnOk result (seat.new.me ≡ (releasing seat.old.me.0, [])) }
         ensures err { OnErr result ((looks : ℕ) × (taken : List (AskedOf T.Op)) × (slots : _) × (seat.new.me ≡ (collected seat.old.me.0 looks taken, slots))) }
+        ensures failed { OnErr result (IsLost T.object T.content T.fails seat.old.me.0.log) }
     {
-        let (callers, ops) = self.collect(seat)?;
+        let (callers, ops) = self.collect(seat, room);
         let (structure, replies) = structure.serve(self.alloc, ops)?;
         let replies = self.publish(seat, structure, replies);
         self.answer_all(seat, callers, replies);
         self.release(seat);
         Ok(())
+    }
+
+    /// Takes the reply to a call that was served.
+    fn take<R: Wait>(
+        &self,
+        rt: &R,
+        seat: &mut Seat<Slot<T, T::Op, T::Reply>, View<T::Op, T::Reply>>,
+        number: usize,
+    ) -> T::Reply
+        requires table { seat.old.table_id ≡ self.now.table.shared.table_id }
+        requires own { (seat.old.me.0.from ≡ number) × (seat.old.me.0.to ≡ number + 1) × (number < self.now.callers) }
+        requires settled { (seat.old.me.0.holds ≡ false) × (seat.old.me.1 ≡ []) }
+        ensures table { seat.new.table_id ≡ seat.old.table_id }
+        ensures left { (w : ViewOf T.Op T.Reply) × IsLeft T.object seat.old.me.0 result w × (seat.new.me ≡ (w, (number, Vacant) ∷ [])) }
+    {
+        for _ in rt.forever() {
+            if let Some(reply) = self.leave(seat, number) {
+                return reply;
+            }
+        }
+        unreachable!()
+    }
+
+    /// Takes the reply, if there is one, of a caller that found the structure lost.
+    fn stop(
+        &self,
+        seat: &mut Seat<Slot<T, T::Op, T::Reply>, View<T::Op, T::Reply>>,
+        number: usize,
+    ) -> Option<T::Reply>
+        requires table { seat.old.table_id ≡ self.now.table.shared.table_id }
+        requires own { (seat.old.me.0.from ≡ number) × (seat.old.me.0.to ≡ number + 1) × (number < self.now.callers) }
+        requires settled { (seat.old.me.0.holds ≡ false) × (seat.old.me.0.lost ≡ true) }
+        ensures table { seat.new.table_id ≡ seat.old.table_id }
+        ensures stopped { HasStopped number seat.new.me.0 × (seat.new.me.0.log ≡ seat.old.me.0.log) }
+        ensures last { IfSome result (λ reply. IsAnswered T.object seat.old.me.0 reply seat.new.me.0) }
+        ensures none { IfNone result (IsRefused T.object seat.old.me.0 seat.new.me.0) }
+    {
+        self.leave(seat, number)
+    }
+
+    /// Serves a batch, and takes the reply.
+    fn lead<R: Wait>(
+        &self,
+        rt: &R,
+        seat: &mut Seat<Slot<T, T::Op, T::Reply>, View<T::Op, T::Reply>>,
+        number: usize,
+        structure: T,
+        room: Room<T::Op>,
+    ) -> Result<T::Reply, Option<T::Reply>>
+        requires table { seat.old.table_id ≡ self.now.table.shared.table_id }
+        requires own { (seat.old.me.0.from ≡ number) × (seat.old.me.0.to ≡ number + 1) × (number < self.now.callers) }
+        requires holds { seat.old.me.0.holds ≡ true }
+        requires begins { (seat.old.me.0.looks ≡ 0) × (seat.old.me.0.taken ≡ []) × (seat.old.me.0.owed ≡ []) }
+        requires slot { seat.old.me.1 ≡ (self.now.callers, Vacant) ∷ [] }
+        requires content { T.content structure ≡ state_after T.object seat.old.me.0.log }
+        requires room { HasRoom self.now.callers room }
+        ensures table { seat.new.table_id ≡ seat.old.table_id }
+        ensures left { IfOk result (λ reply. (w : ViewOf T.Op T.Reply) × IsLeft T.object (releasing seat.old.me.0) reply w × (seat.new.me ≡ (w, (number, Vacant) ∷ []))) }
+        ensures lost { IfErr result (λ reply. HasStopped number seat.new.me.0 × IsLost T.object T.content T.fails seat.new.me.0.log
+            × IfSome reply (λ reply. IsAnswered T.object seat.old.me.0 reply seat.new.me.0) × IfNone reply (IsRefused T.object seat.old.me.0 seat.new.me.0)) }
+    {
+        match self.serve(seat, structure, room) {
+            Ok(()) => Ok(self.take(rt, seat, number)),
+            Err(AllocError) => {
+                self.lose(seat);
+                Err(self.stop(seat, number))
+            }
+        }
     }
 
     /// Waits for the reply to the call that is posted: it serves the batch itself, or another caller does.
@@ -109,14 +192,16 @@ impl<T: Combined> Shared<T> {
         rt: &R,
         seat: &mut Seat<Slot<T, T::Op, T::Reply>, View<T::Op, T::Reply>>,
         number: usize,
-    ) -> Result<T::Reply, Lost<T::Reply>>
+        room: Room<T::Op>,
+    ) -> Result<T::Reply, Option<T::Reply>>
         requires table { seat.old.table_id ≡ self.now.table.shared.table_id }
         requires own { (seat.old.me.0.from ≡ number) × (seat.old.me.0.to ≡ number + 1) × (number < self.now.callers) }
         requires settled { (seat.old.me.0.holds ≡ false) × (seat.old.me ≡ (releasing seat.old.me.0, [])) }
+        requires room { HasRoom self.now.callers room }
         ensures table { seat.new.table_id ≡ seat.old.table_id }
         ensures left { IfOk result (λ reply. (w : ViewOf T.Op T.Reply) × IsLeft T.object seat.old.me.0 reply w × (seat.new.me ≡ (w, (number, Vacant) ∷ []))) }
-        ensures lost { IfErr result (λ lost. (seat.new.me.0.lost ≡ true) × (seat.new.me.0.holds ≡ false) × (seat.new.me.0.from ≡ number) × (seat.new.me.0.to ≡ number + 1) × KnowsItsCalls seat.new.me.0
-            × IfSome lost.reply (λ reply. IsAnswered T.object seat.old.me.0 reply seat.new.me.0) × IfNone lost.reply (IsRefused T.object seat.old.me.0 seat.new.me.0)) }
+        ensures lost { IfErr result (λ reply. HasStopped number seat.new.me.0 × IsLost T.object T.content T.fails seat.new.me.0.log
+            × IfSome reply (λ reply. IsAnswered T.object seat.old.me.0 reply seat.new.me.0) × IfNone reply (IsRefused T.object seat.old.me.0 seat.new.me.0)) }
     {
         let backoff = Backoff::new();
         for _ in rt.forever() {
@@ -124,23 +209,9 @@ impl<T: Combined> Shared<T> {
                 return Ok(reply);
             }
             match self.win(seat, number) {
-                Won::Flag(structure) => {
-                    match self.serve(seat, structure) {
-                        Ok(()) => {}
-                        Err(AllocError) => {
-                            self.lose(seat);
-                            return Err(Lost {
-                                reply: self.leave(seat, number),
-                            });
-                        }
-                    }
-                }
+                Won::Flag(structure) => return self.lead(rt, seat, number, structure, room),
                 Won::Held => backoff.snooze(),
-                Won::Lost => {
-                    return Err(Lost {
-                        reply: self.leave(seat, number),
-                    });
-                }
+                Won::Lost => return Err(self.stop(seat, number)),
             }
         }
         unreachable!()
@@ -148,29 +219,35 @@ impl<T: Combined> Shared<T> {
 
     /// Calls the structure, and waits for the reply.
     ///
-    /// Memory: where this caller serves a batch, proportional to it.
+    /// Memory: proportional to the callers; where this caller serves a batch, what the structure takes for it.
     pub fn call<R: Wait>(
         &self,
         rt: &R,
         caller: &mut Caller<T>,
         op: T::Op,
-    ) -> Result<T::Reply, Lost<T::Reply>>
+    ) -> Result<T::Reply, Failed<T::Op, T::Reply>>
         requires caller { IsCallerOf self.now caller.old }
         requires sound { is_lost caller.old ≡ false }
         ensures own { IsCallerOf self.now caller.new × (number_of caller.new ≡ number_of caller.old) }
         ensures served { IfOk result (λ reply. IsServed T.object (number_of caller.old) (made caller.old) (seen caller.old) op reply (made caller.new) (seen caller.new)) }
         ensures stays { OnOk result (is_lost caller.new ≡ false) }
-        ensures lost { OnErr result (is_lost caller.new ≡ true) }
-        ensures last { IfErr result (λ lost. IfSome lost.reply (λ reply. IsServed T.object (number_of caller.old) (made caller.old) (seen caller.old) op reply (made caller.new) (seen caller.new))) }
-        ensures unserved { IfErr result (λ lost. IfNone lost.reply (IsUnserved T.object (number_of caller.old) (made caller.old) (seen caller.old) (made caller.new) (seen caller.new))) }
+        ensures refused { IfErr result (IfRefused (λ same. (same ≡ op) × (is_lost caller.new ≡ false) × (made caller.new ≡ made caller.old) × (seen caller.new ≡ seen caller.old))) }
+        ensures lost { IfErr result (IfLost (λ reply. is_lost caller.new ≡ true)) }
+        ensures last { IfErr result (IfLost (λ last. IfSome last (λ reply. IsServed T.object (number_of caller.old) (made caller.old) (seen caller.old) op reply (made caller.new) (seen caller.new)))) }
+        ensures unserved { IfErr result (IfLost (λ last. IfNone last (IsUnserved T.object (number_of caller.old) (made caller.old) (seen caller.old) (made caller.new) (seen caller.new)))) }
+        ensures cause { IfErr result (IfLost (λ last. (log : _) × StartsWith log (seen caller.new) × IsLost T.object T.content T.fails log)) }
     {
+        let room = match self.room() {
+            Ok(room) => room,
+            Err(AllocError) => return Err(Failed::Refused(op)),
+        };
         self.post(&mut caller.seat, caller.number, op);
-        let served = self.wait(rt, &mut caller.seat, caller.number);
+        let served = self.wait(rt, &mut caller.seat, caller.number, room);
         match served {
             Ok(reply) => Ok(reply),
-            Err(lost) => {
+            Err(last) => {
                 caller.lost = true;
-                Err(lost)
+                Err(Failed::Lost(last))
             }
         }
     }

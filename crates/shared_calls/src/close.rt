@@ -5,6 +5,7 @@ ghost use Rattle.shared_calls.specs.declared.view.Entry.{Entry as EntryOf};
 ghost use Rattle.shared_calls.specs.Logs.{state_after};
 ghost use Rattle.shared_calls.specs.Plays.{retiring};
 ghost use Rattle.shared_calls.specs.Views.{IsCallerOf, number_of};
+ghost use Rattle.shared_calls.specs.Rule.{IsLost};
 ghost use Rattle.shared_calls.specs.Closing.{AreCallersOf, AreAllCalls, Gathers, HasSlotsBelow};
 
 use crate::combined::Combined;
@@ -73,7 +74,7 @@ impl<T: Combined> Shared<T> {
         requires callers { AreCallersOf self callers.items }
         ensures kept { IfSome result (λ structure. (log : List (EntryOf T.Op T.Reply)) × AreAllCalls T.object callers.items log
             × (T.content structure ≡ state_after T.object log)) }
-        ensures lost { IfNone result ((log : List (EntryOf T.Op T.Reply)) × AreAllCalls T.object callers.items log) }
+        ensures lost { IfNone result ((log : List (EntryOf T.Op T.Reply)) × AreAllCalls T.object callers.items log × IsLost T.object T.content T.fails log) }
     {
         let seat = self.gather(callers);
         let count = self.callers;

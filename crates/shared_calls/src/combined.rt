@@ -1,5 +1,5 @@
 //! The structures that can be shared.
-ghost use Rattle.std.specs.Prelude.{IfOk};
+ghost use Rattle.std.specs.Prelude.{List, IfOk, OnErr};
 ghost use Rattle.shared_calls.specs.Serial.{SerialObject, IsServedInSomeOrder};
 
 use std::alloc::{AllocError, Global};
@@ -17,6 +17,9 @@ pub trait Combined: Sized + Drop {
     /// The content of the structure, as a state of this object.
     ghost content: { Self → SerialObject.State object };
 
+    /// What holds where the structure fails to serve these operations, for want of memory.
+    ghost fails: { Self → List Self.Op → Type 0 };
+
     /// Serves a batch, in an order of its own, and returns the replies in the order of `ops`. The structure is lost if
     /// memory runs out.
     fn serve(
@@ -24,5 +27,6 @@ pub trait Combined: Sized + Drop {
         alloc: Global,
         ops: Vec<Self::Op>,
     ) -> Result<(Self, Vec<Self::Reply>), AllocError>
-        ensures { IfOk result (λ p. IsServedInSomeOrder object (content self) ops.items p.1.items (content p.0)) };
+        ensures served { IfOk result (λ p. IsServedInSomeOrder object (content self) ops.items p.1.items (content p.0)) }
+        ensures failed { OnErr result (fails self ops.items) };
 }

@@ -22,6 +22,6 @@ mod tests;
 mod view;
 
 pub use combined::Combined;
-pub use shared::{Caller, Lost, Note, Shared};
+pub use shared::{Caller, Failed, Note, Shared};
 #[doc(hidden)]
 pub use view::{Asked, Entry, Request, Slot, View};

@@ -14,7 +14,7 @@ pub struct CallRule<T> {
 }
 
 impl<T: Combined> TableRule<Slot<T, T::Op, T::Reply>, View<T::Op, T::Reply>, u64> for CallRule<T> {
-    ghost holds = { Keeps T.object T.content };
+    ghost holds = { Keeps T.object T.content T.fails };
 
     ghost first = { first_view };
 }
@@ -93,7 +93,7 @@ pub struct Win<T> {
 }
 
 impl<T: Combined> Play<Slot<T, T::Op, T::Reply>, View<T::Op, T::Reply>> for Win<T> {
-    ghost then = { Wins T.object T.content };
+    ghost then = { Wins T.object T.content T.fails };
 }
 
 /// The holder of the flag looks at a caller, and takes its call, if one is posted.

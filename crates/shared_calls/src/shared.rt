@@ -108,9 +108,19 @@ impl<T: Combined> Note<T> {
     }
 }
 
-/// Memory ran out while a batch was served, and the structure is lost. The call was served before, with this reply, or
-/// it was not served.
+/// Why a call fails.
 #[derive(Drop)]
-pub struct Lost<R> {
-    pub reply: Option<R>,
+pub enum Failed<O, R> {
+    /// There was no memory for the call. It was not made: here is its operation, and the caller may call again.
+    Refused(O),
+    /// The structure is lost: it failed to serve a batch, for want of memory. The call was served before, with this
+    /// reply, or it was not served.
+    Lost(Option<R>),
+}
+
+/// Room for a batch.
+#[derive(Drop)]
+pub(crate) struct Room<O> {
+    pub(crate) callers: Vec<usize>,
+    pub(crate) ops: Vec<O>,
 }

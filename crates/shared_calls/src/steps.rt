@@ -8,6 +8,7 @@ ghost use Rattle.shared_calls.specs.declared.view.Slot.TheVariants.{Vacant, Whol
 ghost use Rattle.shared_calls.specs.declared.steps.Won.TheVariants.{Flag, Held, Lost};
 ghost use Rattle.shared_calls.specs.Serial.{IsServedInSomeOrder};
 ghost use Rattle.shared_calls.specs.Logs.{entry, state_after};
+ghost use Rattle.shared_calls.specs.Rule.{IsLost};
 ghost use Rattle.shared_calls.specs.Plays.{with_request, found_lost, winning, taking, publishing, answering, releasing, losing, IsLeft, IsNotServed};
 
 use crate::combined::Combined;
@@ -81,7 +82,7 @@ impl<T: Combined> Shared<T> {
         ensures won { (t : T) → result ≡ Flag t → (log : List (EntryOf T.Op T.Reply)) × (T.content t ≡ state_after T.object log)
             × (seat.new.me ≡ (winning seat.old.me.0 log, (self.now.callers, Vacant) ∷ [])) }
         ensures held { result ≡ Held → seat.new.me ≡ seat.old.me }
-        ensures lost { result ≡ Lost → (log : List (EntryOf T.Op T.Reply)) × (seat.new.me ≡ (found_lost seat.old.me.0 log, [])) }
+        ensures lost { result ≡ Lost → (log : List (EntryOf T.Op T.Reply)) × IsLost T.object T.content T.fails log × (seat.new.me ≡ (found_lost seat.old.me.0 log, [])) }
     {
         let shared = &self.table.shared;
         let flag = self.callers;
@@ -191,6 +192,7 @@ impl<T: Combined> Shared<T> {
         requires table { seat.old.table_id ≡ self.now.table.shared.table_id }
         requires holds { (seat.old.me.0.to ≡ seat.old.me.0.from + 1) × (seat.old.me.0.holds ≡ true) }
         requires none_owed { seat.old.me.0.owed ≡ [] }
+        requires failed { IsLost T.object T.content T.fails seat.old.me.0.log }
         ensures table { seat.new.table_id ≡ seat.old.table_id }
         ensures lost { seat.new.me ≡ (losing seat.old.me.0, seat.old.me.1) }
     {

@@ -1,5 +1,5 @@
 //! A counter that threads share.
-ghost use Rattle.std.specs.Prelude.{◌≡◌, false, IfOk};
+ghost use Rattle.std.specs.Prelude.{◌≡◌, ⊤, false, IfOk, OnErr};
 ghost use Rattle.shared_calls.specs.Counters.{counter};
 ghost use Rattle.shared_calls.specs.Serial.{IsServedInSomeOrder};
 ghost use Rattle.shared_calls.specs.Views.{IsCallerOf, is_lost};
@@ -27,8 +27,11 @@ impl Combined for Counter {
 
     ghost content = { λ c. c.sum };
 
+    ghost fails = { λ c ops. ⊤ };
+
     fn serve(self, alloc: Global, ops: Vec<u64>) -> Result<(Counter, Vec<u64>), AllocError>
-        ensures { IfOk result (λ p. IsServedInSomeOrder counter self.sum ops.items p.1.items p.0.sum) }
+        ensures served { IfOk result (λ p. IsServedInSomeOrder counter self.sum ops.items p.1.items p.0.sum) }
+        ensures failed { OnErr result ⊤ }
     {
         let mut sum = self.sum;
         let mut replies = Vec::with_capacity(alloc, ops.len())?;

@@ -9,7 +9,7 @@ split_seat-own-requires g c =
     let i = c.loop-number.invariant in
     let less = c.loop-number-test.true in
     let sized = c.args.self.now.sized.0 in
-    (i.table, omega (arith, sized), can_cut g.T.Combined.object g.T.Combined.content _ _ c.loop-number.number c.args.self.now.callers (c.args.self.now.callers - c.loop-number.number) c.loop-number.seat.me i.left less)
+    (i.table, omega (arith, sized), can_cut g.T.Combined.object g.T.Combined.content g.T.Combined.fails _ _ c.loop-number.number c.args.self.now.callers (c.args.self.now.callers - c.loop-number.number) c.loop-number.seat.me i.left less)
 
 pub loop-number-preserved : goal.loop-number-preserved
 loop-number-preserved g c =

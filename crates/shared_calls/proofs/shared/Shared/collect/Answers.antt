@@ -13,8 +13,9 @@ use Rattle.shared_calls.proofs.shared.Shared.collect.Goals.{in-Some, in-None}
 pub loop-caller-init : goal.loop-caller-init
 loop-caller-init g c =
     let seat = c.args.seat.now in
-    let a = c.in_ok-callers.ensures.len in
-    let b = c.in_ok-ops.ensures.len in
+    let room = c.requires.room in
+    let a = room.2 in
+    let b = room.3 in
     record {
       table = refl;
       looks = 0;
@@ -22,10 +23,10 @@ loop-caller-init g c =
       next = omega arith;
       me = ap (λ (n : ℕ). (collected seat.me.0 n seat.me.0.taken, seat.me.1)) c.requires.begins.0
           ∙ (ap (λ t. (collected seat.me.0 0 t, seat.me.1)) c.requires.begins.1 ∙ ap (λ l. (collected seat.me.0 0 [], l)) c.requires.slot);
-      callers = c.in_ok-callers.ensures.items;
-      ops = c.in_ok-ops.ensures.items;
-      below = subst (AllByRecursion (λ (u : ℕ). u < c.args.self.now.callers)) (sym c.in_ok-callers.ensures.items) tt;
-      room = (omega (arith, a), omega (arith, b), c.in_ok-callers.ensures.capacity, c.in_ok-ops.ensures.capacity);
+      callers = room.0;
+      ops = room.1;
+      below = subst (AllByRecursion (λ (u : ℕ). u < c.args.self.now.callers)) (sym room.0) tt;
+      room = (omega (arith, a), omega (arith, b), room.4, room.5);
     }
 
 pub look-requires-clause-table : goal.look-requires-clause-table

@@ -11,6 +11,6 @@ pub store-requires : goal.store-requires
 store-requires g c = (
   search rules,
   search rules,
-  allowed g.T.Combined.object g.T.Combined.content _ c.args.self.now.callers c.args.self.now.key _ _ c.args.number (λ _. 0) (λ m _. Enrolls (step c.args.self.now.table.shared.table_id.slots c.args.number 0 0 none) m 0) c.args.seat.me _ c.requires.new.0
-      (enrolls g.T.Combined.object g.T.Combined.content c.args.self.now.callers _ _ (newcomers c.args.number (c.args.number + 1) 1) c.args.number refl refl refl refl),
+  allowed g.T.Combined.object g.T.Combined.content g.T.Combined.fails _ c.args.self.now.callers c.args.self.now.key _ _ c.args.number (λ _. 0) (λ m _. Enrolls (step c.args.self.now.table.shared.table_id.slots c.args.number 0 0 none) m 0) c.args.seat.me _ c.requires.new.0
+      (enrolls g.T.Combined.object g.T.Combined.content g.T.Combined.fails c.args.self.now.callers _ _ (newcomers c.args.number (c.args.number + 1) 1) c.args.number refl refl refl refl),
 )

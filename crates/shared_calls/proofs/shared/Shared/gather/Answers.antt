@@ -29,7 +29,7 @@ join_seat-requires g c =
       c.retire-next.ensures.table,
       ap (λ m. m.1) c.retire-next.ensures.retired,
       omega (arith, sized),
-      joins_next g.T.Combined.object g.T.Combined.content s.table.shared.key _ _ i.done c.in-Some-caller.caller c.loop-caller.seat.me.0 c.retire-next.result.me.0 i.gathers (ap (λ m. m.0) c.retire-next.ensures.retired) c.retire-next.ensures.idle left.1 i.some,
+      joins_next g.T.Combined.object g.T.Combined.content g.T.Combined.fails s.table.shared.key _ _ i.done c.in-Some-caller.caller c.loop-caller.seat.me.0 c.retire-next.result.me.0 i.gathers (ap (λ m. m.0) c.retire-next.ensures.retired) c.retire-next.ensures.idle left.1 i.some,
     )
 
 pub loop-caller-preserved : goal.loop-caller-preserved

@@ -16,7 +16,7 @@ join_seat-requires g c =
       search rules,
       search rules,
       omega (arith, sized),
-      hears_note g.T.Combined.object g.T.Combined.content c.args.self.now.table.shared.key _ _ c.args.caller.now.seat.me.0 _,
+      hears_note g.T.Combined.object g.T.Combined.content g.T.Combined.fails c.args.self.now.table.shared.key _ _ c.args.caller.now.seat.me.0 _,
     )
 
 pub load-requires : goal.load-requires
@@ -27,7 +27,7 @@ load-requires g c =
     let is = c.join_seat.ensures.2 ∙ ap (λ m. (hearing m.0 c.into_seat-seat.result.me.0, m.1)) (caller.idle c.requires.sound) in (
       search rules,
       search rules,
-      allowed g.T.Combined.object g.T.Combined.content _ c.args.self.now.callers c.args.self.now.key _ _ caller.number (λ y. y)
+      allowed g.T.Combined.object g.T.Combined.content g.T.Combined.fails _ c.args.self.now.callers c.args.self.now.key _ _ caller.number (λ y. y)
           (λ m. Hears g.T.Combined.object (step c.args.self.now.table.shared.table_id.slots caller.number 0 0 none) m) c.join_seat.new.seat.me (v, (caller.number, Vacant) ∷ []) is
-          (hears g.T.Combined.object g.T.Combined.content c.args.self.now.callers _ _ v ((caller.number, Vacant) ∷ []) caller.number caller.number refl refl refl refl),
+          (hears g.T.Combined.object g.T.Combined.content g.T.Combined.fails c.args.self.now.callers _ _ v ((caller.number, Vacant) ∷ []) caller.number caller.number refl refl refl refl),
     )

@@ -14,8 +14,8 @@ compare_exchange-requires g c =
     let seat = c.args.seat.now in (
       search rules,
       search rules,
-      allowed g.T.Combined.object g.T.Combined.content _ c.args.self.now.callers c.args.self.now.key _ _ c.args.number (λ y. either (eqb y 2) 0 y) (λ m. Leaves g.T.Combined.object (step c.args.self.now.table.shared.table_id.slots c.args.number 2 0 none) m) seat.me seat.me refl
-          (leaves g.T.Combined.object g.T.Combined.content c.args.self.now.callers _ _ seat.me.0 seat.me.1 c.args.number c.requires.own.0 c.requires.own.1 c.requires.idle),
+      allowed g.T.Combined.object g.T.Combined.content g.T.Combined.fails _ c.args.self.now.callers c.args.self.now.key _ _ c.args.number (λ y. either (eqb y 2) 0 y) (λ m. Leaves g.T.Combined.object (step c.args.self.now.table.shared.table_id.slots c.args.number 2 0 none) m) seat.me seat.me refl
+          (leaves g.T.Combined.object g.T.Combined.content g.T.Combined.fails c.args.self.now.callers _ _ seat.me.0 seat.me.1 c.args.number c.requires.own.0 c.requires.own.1 c.requires.idle),
     )
 
 pub exchange-requires : goal.exchange-requires

@@ -13,8 +13,8 @@ load-requires g c =
     let seat = c.args.seat.now in (
       search rules,
       search rules,
-      allowed g.T.Combined.object g.T.Combined.content _ c.args.self.now.callers c.args.self.now.key _ _ c.args.caller (λ y. y) (λ m. Looks (step c.args.self.now.table.shared.table_id.slots c.args.caller 0 0 none) m) seat.me seat.me refl
-          (looks g.T.Combined.object g.T.Combined.content c.args.self.now.callers _ _ seat.me.0 seat.me.1 seat.me.0.from c.args.caller refl c.requires.holds.0 c.requires.holds.1 c.requires.next.0 c.requires.next.1 c.requires.next.2),
+      allowed g.T.Combined.object g.T.Combined.content g.T.Combined.fails _ c.args.self.now.callers c.args.self.now.key _ _ c.args.caller (λ y. y) (λ m. Looks (step c.args.self.now.table.shared.table_id.slots c.args.caller 0 0 none) m) seat.me seat.me refl
+          (looks g.T.Combined.object g.T.Combined.content g.T.Combined.fails c.args.self.now.callers _ _ seat.me.0 seat.me.1 seat.me.0.from c.args.caller refl c.requires.holds.0 c.requires.holds.1 c.requires.next.0 c.requires.next.1 c.requires.next.2),
     )
 
 pub exchange-content-requires : goal.exchange-content-requires

@@ -11,6 +11,6 @@ store-requires g c =
     let seat = c.args.seat.now in (
       search rules,
       search rules,
-      allowed g.T.Combined.object g.T.Combined.content _ c.args.self.now.callers c.args.self.now.key _ _ c.args.self.now.callers (λ _. c.args.self.now.callers + 1) (λ m _. Loses (step c.args.self.now.table.shared.table_id.slots c.args.self.now.callers (c.args.self.now.callers + 1) 0 none) m (c.args.self.now.callers + 1)) seat.me seat.me refl
-          (loses g.T.Combined.object g.T.Combined.content c.args.self.now.callers _ _ seat.me.0 seat.me.1 seat.me.0.from refl c.requires.holds.0 c.requires.holds.1 c.requires.none_owed),
+      allowed g.T.Combined.object g.T.Combined.content g.T.Combined.fails _ c.args.self.now.callers c.args.self.now.key _ _ c.args.self.now.callers (λ _. c.args.self.now.callers + 1) (λ m _. Loses (step c.args.self.now.table.shared.table_id.slots c.args.self.now.callers (c.args.self.now.callers + 1) 0 none) m (c.args.self.now.callers + 1)) seat.me seat.me refl
+          (loses g.T.Combined.object g.T.Combined.content g.T.Combined.fails c.args.self.now.callers _ _ seat.me.0 seat.me.1 seat.me.0.from refl c.requires.holds.0 c.requires.holds.1 c.requires.none_owed c.requires.failed),
     )

@@ -15,8 +15,8 @@ store-requires g c =
     let is = written seat.me.0 seat.me c.exchange.new.seat.me c.args.number Vacant (Posted c.args.op) [] (ap (λ l. (seat.me.0, l)) slot) c.exchange.ensures.3 in (
       search rules,
       search rules,
-      allowed g.T.Combined.object g.T.Combined.content _ c.args.self.now.callers c.args.self.now.key _ _ c.args.number (λ _. 1) (λ m _. Posts (step c.args.self.now.table.shared.table_id.slots c.args.number 1 0 none) m 1) c.exchange.new.seat.me (seat.me.0, (c.args.number, Posted c.args.op) ∷ []) is
-          (posts g.T.Combined.object g.T.Combined.content c.args.self.now.callers _ _ seat.me.0 c.args.number c.args.op c.requires.own.0 c.requires.own.1 c.requires.idle c.requires.nothing.0),
+      allowed g.T.Combined.object g.T.Combined.content g.T.Combined.fails _ c.args.self.now.callers c.args.self.now.key _ _ c.args.number (λ _. 1) (λ m _. Posts (step c.args.self.now.table.shared.table_id.slots c.args.number 1 0 none) m 1) c.exchange.new.seat.me (seat.me.0, (c.args.number, Posted c.args.op) ∷ []) is
+          (posts g.T.Combined.object g.T.Combined.content g.T.Combined.fails c.args.self.now.callers _ _ seat.me.0 c.args.number c.args.op c.requires.own.0 c.requires.own.1 c.requires.idle c.requires.nothing.0),
     )
 
 pub returns-clause-posted : goal.returns-clause-posted

@@ -17,8 +17,8 @@ load-requires g c =
     let is1 = written seat.me.0 seat.me c.exchange.new.seat.me flag Vacant whole (rest seat.me.1) (ap (λ l. (seat.me.0, l)) c.requires.slot) c.exchange.ensures.3 in (
       search rules,
       search rules,
-      allowed g.T.Combined.object g.T.Combined.content _ c.args.self.now.callers c.args.self.now.key _ _ flag (λ y. y) (λ m. Publishes g.T.Combined.object g.T.Combined.content (step c.args.self.now.table.shared.table_id.slots flag 0 0 none) m) c.exchange.new.seat.me (seat.me.0, (flag, whole) ∷ rest seat.me.1) is1
-          (publishes g.T.Combined.object g.T.Combined.content c.args.self.now.callers _ _ seat.me.0 c.args.structure c.args.replies (rest seat.me.1) seat.me.0.from refl c.requires.holds.0 c.requires.holds.1 c.requires.none_owed c.requires.served),
+      allowed g.T.Combined.object g.T.Combined.content g.T.Combined.fails _ c.args.self.now.callers c.args.self.now.key _ _ flag (λ y. y) (λ m. Publishes g.T.Combined.object g.T.Combined.content (step c.args.self.now.table.shared.table_id.slots flag 0 0 none) m) c.exchange.new.seat.me (seat.me.0, (flag, whole) ∷ rest seat.me.1) is1
+          (publishes g.T.Combined.object g.T.Combined.content g.T.Combined.fails c.args.self.now.callers _ _ seat.me.0 c.args.structure c.args.replies (rest seat.me.1) seat.me.0.from refl c.requires.holds.0 c.requires.holds.1 c.requires.none_owed c.requires.served),
     )
 
 pub exchange-requires-2 : goal.exchange-requires-2

@@ -13,8 +13,8 @@ store-requires g c =
     let slot = c.requires.slot in (
       search rules,
       search rules,
-      allowed g.T.Combined.object g.T.Combined.content _ c.args.self.now.callers c.args.self.now.key _ _ c.args.self.now.callers (λ _. 0) (λ m _. Releases (step c.args.self.now.table.shared.table_id.slots c.args.self.now.callers 0 0 none) m 0) seat.me (seat.me.0, (c.args.self.now.callers, Whole slot.0 slot.1) ∷ []) (ap (λ l. (seat.me.0, l)) slot.2)
-          (releases g.T.Combined.object g.T.Combined.content c.args.self.now.callers _ _ seat.me.0 slot.0 slot.1 seat.me.0.from refl c.requires.holds.0 c.requires.holds.1 c.requires.done.0 c.requires.done.1 slot.3),
+      allowed g.T.Combined.object g.T.Combined.content g.T.Combined.fails _ c.args.self.now.callers c.args.self.now.key _ _ c.args.self.now.callers (λ _. 0) (λ m _. Releases (step c.args.self.now.table.shared.table_id.slots c.args.self.now.callers 0 0 none) m 0) seat.me (seat.me.0, (c.args.self.now.callers, Whole slot.0 slot.1) ∷ []) (ap (λ l. (seat.me.0, l)) slot.2)
+          (releases g.T.Combined.object g.T.Combined.content g.T.Combined.fails c.args.self.now.callers _ _ seat.me.0 slot.0 slot.1 seat.me.0.from refl c.requires.holds.0 c.requires.holds.1 c.requires.done.0 c.requires.done.1 slot.3),
     )
 
 pub returns-clause-released : goal.returns-clause-released

@@ -9,8 +9,9 @@ new-requires g c =
     let p = c.args.callers in
     let object = g.T.Combined.object in
     let content = g.T.Combined.content in
+    let fails = g.T.Combined.fails in
     let slots = c.in_ok-slots.ensures in
     let words = c.deref.ensures.value ∙ c.in_ok-words.ensures in
-    subst (λ ws. Keeps object content p (opening ws c.in_ok-slots.slots.items (first_view p))) (sym words)
-    (subst (λ xs. Keeps object content p (opening (set (replicate (p + 1) 3) p 0) xs (first_view p))) (sym slots.1)
-    (starts object content p (p + 1) c.args.structure slots.0 refl c.requires.opening))
+    subst (λ ws. Keeps object content fails p (opening ws c.in_ok-slots.slots.items (first_view p))) (sym words)
+    (subst (λ xs. Keeps object content fails p (opening (set (replicate (p + 1) 3) p 0) xs (first_view p))) (sym slots.1)
+    (starts object content fails p (p + 1) c.args.structure slots.0 refl c.requires.opening))

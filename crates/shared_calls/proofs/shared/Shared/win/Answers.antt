@@ -16,8 +16,8 @@ compare_exchange-found-requires g c =
     let seat = c.args.seat.now in (
       search rules,
       search rules,
-      allowed g.T.Combined.object g.T.Combined.content _ c.args.self.now.callers c.args.self.now.key _ _ c.args.self.now.callers (λ y. either (eqb y 0) (c.args.number + 1) y) (λ m. Wins g.T.Combined.object g.T.Combined.content (step c.args.self.now.table.shared.table_id.slots c.args.self.now.callers 0 (c.args.number + 1) none) m) seat.me (seat.me.0, []) (ap (λ l. (seat.me.0, l)) c.requires.bare)
-          (wins g.T.Combined.object g.T.Combined.content c.args.self.now.callers _ _ seat.me.0 c.args.number c.requires.own.0 c.requires.own.1 c.requires.idle),
+      allowed g.T.Combined.object g.T.Combined.content g.T.Combined.fails _ c.args.self.now.callers c.args.self.now.key _ _ c.args.self.now.callers (λ y. either (eqb y 0) (c.args.number + 1) y) (λ m. Wins g.T.Combined.object g.T.Combined.content g.T.Combined.fails (step c.args.self.now.table.shared.table_id.slots c.args.self.now.callers 0 (c.args.number + 1) none) m) seat.me (seat.me.0, []) (ap (λ l. (seat.me.0, l)) c.requires.bare)
+          (wins g.T.Combined.object g.T.Combined.content g.T.Combined.fails c.args.self.now.callers _ _ seat.me.0 c.args.number c.requires.own.0 c.requires.own.1 c.requires.idle),
     )
 
 pub exchange-requires : goal.exchange-requires

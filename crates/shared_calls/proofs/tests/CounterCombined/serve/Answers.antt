@@ -4,8 +4,8 @@ use Rattle.shared_calls.specs.Serial.{replies_to_all, after_all}
 use Rattle.shared_calls.proofs.InOrder.{in_order}
 use Rattle.shared_calls.proofs.tests.CounterCombined.serve.Goals as goal
 
-pub returns : goal.returns
-returns c =
+pub returns-clause-served : goal.returns-clause-served
+returns-clause-served c =
     let i = c.loop-op.invariant in
     let sum = c.loop-op.sum in
     let replies = c.loop-op.replies.items in

@@ -1,0 +1,2 @@
+-- The specification of structures that threads share.
+pub mod Counters

@@ -1,0 +1,2 @@
+-- What the uses of shared structures come to.
+pub mod Drawing

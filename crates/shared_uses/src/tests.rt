@@ -1,0 +1,21 @@
+//! Each use, run once.
+
+use crate::draw_in_threads;
+use std::test::*;
+
+#[test]
+fn each_ticket_is_drawn(rt: HostRuntime) -> Result<(), Fail> {
+    let drawn = draw_in_threads(&rt, rt.alloc(), 4, 1000)?;
+    let mut all = Vec::new(rt.alloc());
+    for tickets in drawn {
+        for ticket in tickets {
+            all.push(ticket)?;
+        }
+    }
+    all.sort()?;
+    all.dedup();
+    assert!(rt; all.len() == 4000);
+    assert!(rt; all.first() == Some(&1));
+    assert!(rt; all.last() == Some(&4000));
+    Ok(())
+}

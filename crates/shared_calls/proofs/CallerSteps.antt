@@ -12,7 +12,7 @@ use Rattle.atomic_table.specs.Table.{State, step, Act, keeps, takes, gives, Vali
 use Rattle.atomic_table.proofs.Lists.{at_set, set_here, set_else, exchanged}
 use Rattle.shared_calls.specs.declared.view.Entry.{Entry}
 use Rattle.shared_calls.specs.declared.view.Request.{Request}
-use Rattle.shared_calls.specs.declared.view.Request.TheVariants.{Absent, Nothing, Asks, Retired}
+use Rattle.shared_calls.specs.declared.view.Request.TheVariants.{Absent, Nothing, Asks}
 use Rattle.shared_calls.specs.declared.view.Slot.{Slot}
 use Rattle.shared_calls.specs.declared.view.Slot.TheVariants.{Vacant, Posted, Answered, Whole}
 use Rattle.shared_calls.specs.declared.view.View.{View}
@@ -241,11 +241,11 @@ module _ {T O R : Type 0} (object : SerialObject O R) (content : T → object.St
       let at : made_by v k ≡ own_calls v = ap (λ (j : ℕ). get_or v.made j []) zero_at in
       let now : made_by w k ≡ own_calls v = ap (λ (j : ℕ). get_or w.made j []) zero_at in
       let all : calls_by k o.log ≡ own_calls v = ⊎_elim
-          (λ nothing. m.1.made ∙ (ap (λ x. made_by v k ++ served k x) (request_of_idle (o.stage k) (sym m.1.asks ∙ nothing)) ∙ (append-nil (made_by v k) ∙ at)))
-          (λ lost. ap (calls_by k) (sees.lost lost.0).1 ∙ subst (λ (j : ℕ). calls_by j v.log ≡ own_calls v) from lost.1) asks in
+      (λ nothing. m.1.made ∙ (ap (λ x. made_by v k ++ served k x) (request_of_idle (o.stage k) (sym m.1.asks ∙ nothing)) ∙ (append-nil (made_by v k) ∙ at)))
+      (λ lost. ap (calls_by k) (sees.lost lost.0).1 ∙ subst (λ (j : ℕ). calls_by j v.log ≡ own_calls v) from lost.1) asks in
       let free : get_or s.words p 0 ≢ p + 1 → IsFree (o.stage k) = λ sound. ⊎_elim
-          (λ nothing. subst IsFree (sym (request_of_idle (o.stage k) (sym m.1.asks ∙ nothing))) tt)
-          (λ lost. absurd (sound (sees.lost lost.0).0)) asks in (
+      (λ nothing. subst IsFree (sym (request_of_idle (o.stage k) (sym m.1.asks ∙ nothing))) tt)
+      (λ lost. absurd (sound (sees.lost lost.0).0)) asks in (
         w,
         keeps,
         tt,

@@ -3,7 +3,7 @@ use Rattle.std.proofs.Common.{append-nil, ◌≡◌, ◌≢◌, ◌⊎◌, ℕ, 
 use Rattle.std.specs.Prelude.{flat_map, IsPermutation}
 use Rattle.std.specs.List.{AllByRecursion}
 use Rattle.std.proofs.lemmas.List.Sorted.{IsPermutation-refl, IsPermutation-trans, IsPermutation-cons, IsPermutation-middle, IsPermutation-append_right}
-use Rattle.std.proofs.lemmas.List.{length-map, map-append, length_push, get_or-append-add}
+use Rattle.std.proofs.lemmas.List.{length-map, map-append, length_push}
 use mathlib.Core.Logic.{dite}
 use native.Mathlib.Decide.{ℕ_discrete}
 use mathlib.Core.Option.{some, some-injective, some-ne-none}
@@ -21,7 +21,7 @@ use Rattle.shared_calls.specs.Serial.{SerialObject}
 use Rattle.shared_calls.specs.Logs.{calls_by, StartsWith, state_after}
 use Rattle.shared_calls.specs.Stages.{Stage, away, idle, posted, taken, owed, answered, retired, request_of, served}
 use Rattle.shared_calls.specs.Rule.{IsLost, Keeps, made_by}
-use Rattle.shared_calls.specs.Plays.{own_calls, retiring, gathering, spent_view, KnowsItsCalls}
+use Rattle.shared_calls.specs.Plays.{retiring, gathering, spent_view, KnowsItsCalls}
 use Rattle.shared_calls.specs.Views.{number_of, made, seen, IsCallerOf}
 use Rattle.shared_calls.specs.Closing.{AreCallersOf, AreAllCalls, AreFrom, Gathers, HasSlotsBelow}
 use Rattle.shared_calls.proofs.Lists.{each_so, calls_here, calls_else}
@@ -80,14 +80,14 @@ module _ {O R : Type 0} where
   parts_next k zero e log lo hi = absurd (omega (arith, lo, hi))
   parts_next k (suc n) e log lo hi = dite (ℕ_discrete e.caller k)
       (λ is. subst (λ l. IsPermutation l (e ∷ (calls_by k log ++ parts (k + 1) n log)))
-          (sym (ap (λ l. l ++ parts (k + 1) n (e ∷ log)) (calls_here k e log is) ∙ ap (λ l. e ∷ (calls_by k log ++ l)) (parts_far (k + 1) n e log (omega (arith, is)))))
-          (IsPermutation-refl (e ∷ (calls_by k log ++ parts (k + 1) n log))))
+      (sym (ap (λ l. l ++ parts (k + 1) n (e ∷ log)) (calls_here k e log is) ∙ ap (λ l. e ∷ (calls_by k log ++ l)) (parts_far (k + 1) n e log (omega (arith, is)))))
+      (IsPermutation-refl (e ∷ (calls_by k log ++ parts (k + 1) n log))))
       (λ ne.
       let later : IsPermutation (parts (k + 1) n (e ∷ log)) (e ∷ parts (k + 1) n log) = parts_next (k + 1) n e log (omega (arith, ne, lo)) (omega (arith, hi)) in
       subst (λ l. IsPermutation (l ++ parts (k + 1) n (e ∷ log)) (e ∷ (calls_by k log ++ parts (k + 1) n log))) (sym (calls_else k e log ne))
-          (IsPermutation-trans (calls_by k log ++ parts (k + 1) n (e ∷ log)) (calls_by k log ++ e ∷ parts (k + 1) n log) (e ∷ (calls_by k log ++ parts (k + 1) n log))
-          (IsPermutation-append_right (calls_by k log) (parts (k + 1) n (e ∷ log)) (e ∷ parts (k + 1) n log) later)
-          (IsPermutation-middle (calls_by k log) e (parts (k + 1) n log))))
+      (IsPermutation-trans (calls_by k log ++ parts (k + 1) n (e ∷ log)) (calls_by k log ++ e ∷ parts (k + 1) n log) (e ∷ (calls_by k log ++ parts (k + 1) n log))
+      (IsPermutation-append_right (calls_by k log) (parts (k + 1) n (e ∷ log)) (e ∷ parts (k + 1) n log) later)
+      (IsPermutation-middle (calls_by k log) e (parts (k + 1) n log))))
 
   -- calls of these callers alone are their calls, mixed
   pub parts_all : (k n : ℕ) (log : List (Entry O R)) → AllByRecursion (λ (e : Entry O R). (k ≤ e.caller) × (e.caller < k + n)) log → IsPermutation (parts k n log) log
@@ -194,7 +194,7 @@ module _ {T O R : Type 0} {g : Ghosts T O R} where
         let is_retired : keeps.stage k ≡ retired = request_of_retired (keeps.stage k) (sym stands.asks ∙ all.retired) in
         let place : k - v.from ≡ k = omega (arith, from) in
         stands.made ∙ (ap (λ x. made_by v k ++ served k x) is_retired ∙ (append-nil (made_by v k) ∙ (ap (λ (j : ℕ). get_or v.made j []) place
-            ∙ (ap (λ l. get_or l k []) all.own ∙ at_map_or made callers k [] c less is))))
+        ∙ (ap (λ l. get_or l k []) all.own ∙ at_map_or made callers k [] c less is))))
 
     pub all_calls : AreAllCalls object callers keeps.log
     all_calls = record {

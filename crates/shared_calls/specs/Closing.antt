@@ -1,5 +1,5 @@
 -- The end of a shared structure: all callers come back.
-use Rattle.std.specs.Prelude.{ℕ, ◌≡◌, ◌+◌, ◌-◌, ◌<◌, ◌≤◌, List, [], ◌∷◌, map, length, slice_index_or, flat_map, IsPermutation, Bool, true, false}
+use Rattle.std.specs.Prelude.{ℕ, ◌≡◌, ◌+◌, ◌<◌, ◌≤◌, List, [], ◌∷◌, map, length, slice_index_or, flat_map, IsPermutation, Bool, true, false}
 use Rattle.std.specs.List.{AllByRecursion}
 use Rattle.shared_calls.specs.declared.shared.Shared.{Shared}
 use Rattle.shared_calls.specs.declared.shared.Caller.{Caller}

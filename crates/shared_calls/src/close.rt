@@ -28,10 +28,7 @@ fn drop_slots<S: Drop>(closed: Closed<S, Global>, count: usize)
 
 impl<T: Combined> Shared<T> {
     /// The caller retires. Its seat keeps no slot.
-    fn retire(
-        &self,
-        caller: Caller<T>,
-    ) -> Seat<Slot<T, T::Op, T::Reply>, View<T::Op, T::Reply>>
+    fn retire(&self, caller: Caller<T>) -> Seat<Slot<T, T::Op, T::Reply>, View<T::Op, T::Reply>>
         requires caller { IsCallerOf self.now caller }
         ensures table { result.table_id ≡ self.now.table.shared.table_id }
         ensures retired { result.me ≡ (retiring caller.seat.me.0, []) }

@@ -1,4 +1,4 @@
-use Rattle.std.proofs.Common.{◌≡◌, ℕ, sym, ap, ◌∙◌, subst}
+use Rattle.std.proofs.Common.{ℕ, sym, ap, ◌∙◌, subst}
 use Rattle.std.specs.Mem.Slots.{slots_items}
 use mathlib.Core.Option.{some-injective}
 use Rattle.atomic_table.specs.Table.{Final, Seen}
@@ -29,7 +29,7 @@ unreachable-requires g c =
     let xs = slots_items c.close_with-closed.result.slots in
     let final = subst (λ (q : ℕ). Final (Seen (Keeps g.T.Combined.object g.T.Combined.content g.T.Combined.fails q) seat.id seat.me.0) ws xs) (c.into_table.ensures.1 ∙ s.key) c.close_with-closed.ensures.values.2 in
     let there = structure_there g.T.Combined.object g.T.Combined.content g.T.Combined.fails s.callers seat.id c.args.callers.items seat.me.0 ws xs c.requires.callers.count c.gather-seat.ensures.gathers final
-        (word_at ws s.callers c.word-flag.result c.word-flag.ensures ∙ c.if-flag-ne0.false) in
+    (word_at ws s.callers c.word-flag.result c.word-flag.ensures ∙ c.if-flag-ne0.false) in
     c.in_default.not-Whole there.0 there.1 (some-injective _ _ (sym c.take-last.ensures.value ∙ there.2))
 
 pub returns-clause-kept : goal.returns-clause-kept
@@ -40,7 +40,7 @@ returns-clause-kept g c =
     let xs = slots_items c.close_with-closed.result.slots in
     let final = subst (λ (q : ℕ). Final (Seen (Keeps g.T.Combined.object g.T.Combined.content g.T.Combined.fails q) seat.id seat.me.0) ws xs) (c.into_table.ensures.1 ∙ s.key) c.close_with-closed.ensures.values.2 in
     let there = structure_there g.T.Combined.object g.T.Combined.content g.T.Combined.fails s.callers seat.id c.args.callers.items seat.me.0 ws xs c.requires.callers.count c.gather-seat.ensures.gathers final
-        (word_at ws s.callers c.word-flag.result c.word-flag.ensures ∙ c.if-flag-ne0.false) in
+    (word_at ws s.callers c.word-flag.result c.word-flag.ensures ∙ c.if-flag-ne0.false) in
     let last = some-injective _ _ (sym c.take-last.ensures.value ∙ there.2) in
     let same = same_whole c.in-Whole.structure there.0 c.in-Whole.field-1 there.1 (sym c.in-Whole.is ∙ last) in (
       _,

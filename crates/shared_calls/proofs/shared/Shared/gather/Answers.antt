@@ -1,4 +1,4 @@
-use Rattle.std.proofs.Common.{rules, ◌≡◌, sym, refl, ap, ◌∙◌, subst, ℕ, ◌+◌, ◌++◌, ◌∷◌, [], length, append_assoc, arith}
+use Rattle.std.proofs.Common.{◌≡◌, sym, ap, ◌∙◌, subst, ℕ, ◌++◌, ◌∷◌, [], length, append_assoc, arith}
 use Rattle.std.proofs.lemmas.List.{length_push}
 use Rattle.shared_calls.specs.Plays.{gathering}
 use Rattle.shared_calls.specs.Closing.{AreFrom}

@@ -1,4 +1,4 @@
-use Rattle.std.proofs.Common.{rules, refl, ap, ◌∙◌, [], arith}
+use Rattle.std.proofs.Common.{rules, ap, ◌∙◌, [], arith}
 use mathlib.Core.Option.{none}
 use Rattle.atomic_table.specs.Table.{step}
 use Rattle.shared_calls.specs.Plays.{retiring, Retires}

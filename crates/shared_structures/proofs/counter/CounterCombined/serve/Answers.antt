@@ -1,4 +1,4 @@
-use Rattle.std.proofs.Common.{◌≡◌, ◌≤◌, List, [], ◌++◌, length, take, append-nil, sym, ap, ◌∙◌, arith}
+use Rattle.std.proofs.Common.{[], ◌++◌, take, append-nil, sym, ap, ◌∙◌, arith}
 use Rattle.shared_calls.specs.Serial.{replies_to_all, after_all}
 use Rattle.shared_calls.proofs.InOrder.{in_order}
 use Rattle.shared_structures.specs.Counters.{counter}

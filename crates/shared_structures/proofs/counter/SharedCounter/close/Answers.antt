@@ -1,4 +1,4 @@
-use Rattle.std.proofs.Common.{ℕ, ◌+◌, ◌%◌, ◌^◌, ap, ◌∙◌, arith}
+use Rattle.std.proofs.Common.{ℕ, ◌%◌, ◌^◌, ap, ◌∙◌, arith}
 use Rattle.shared_structures.proofs.Sums.{after_is}
 use Rattle.shared_structures.proofs.counter.SharedCounter.close.Goals as goal
 

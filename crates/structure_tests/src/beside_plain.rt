@@ -55,11 +55,7 @@ fn append(
 }
 
 /// The operations of batches of 32 calls in the order in which a structure serves them, with its replies.
-fn served<T: Batched>(
-    alloc: Global,
-    structure: T,
-    one: Op,
-) -> Result<Vec<(Op, Reply)>, AllocError>
+fn served<T: Batched>(alloc: Global, structure: T, one: Op) -> Result<Vec<(Op, Reply)>, AllocError>
     requires { (content : Objects) (calls : List CallOf) → AreOf (kind_of one) calls → T.may_serve content calls }
 {
     let mut structure = structure;

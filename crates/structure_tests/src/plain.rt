@@ -87,10 +87,7 @@ fn first_other_reply(plain: &mut Plain, calls: &[(Op, Reply)]) -> Result<Option<
 }
 
 /// The same of objects that no operation has called before.
-pub(crate) fn first_wrong(
-    alloc: Global,
-    calls: &[(Op, Reply)],
-) -> Result<Option<usize>, AllocError>
+pub(crate) fn first_wrong(alloc: Global, calls: &[(Op, Reply)]) -> Result<Option<usize>, AllocError>
     requires { length calls.now < 1000 }
 {
     let mut plain = Plain::new(alloc);

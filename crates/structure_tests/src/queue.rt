@@ -65,12 +65,7 @@ fn the_least_items_are_taken(rt: HostRuntime) -> Result<(), Fail> {
     let queue = Queue::new(rt.alloc())?;
     all_hold(first_wrong(rt.alloc(), queue, Op::PqTake(0), ROWS)?)?;
     let queue = Queue::new(rt.alloc())?;
-    all_hold(first_wrong(
-        rt.alloc(),
-        queue,
-        Op::PqTake(0),
-        FOUR_AND_FIVES,
-    )?)
+    all_hold(first_wrong(rt.alloc(), queue, Op::PqTake(0), FOUR_AND_FIVES)?)
 }
 
 /// Puts the items 20,000, 19,999, .. 1 into a heap.

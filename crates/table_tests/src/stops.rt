@@ -55,9 +55,11 @@ fn is_stopped_in_its_wait<R: Threads + Wait + Sync>(
     let mut zero = mes.remove(0);
     let parts = (Part::Calls(1), Part::LeavesAPiece);
     let (called, left) = work_as_crew(rt, alloc, &crew, &mut zero, &mut one, parts);
-    Ok(gate.pieces.was_kept()
-        && matches!(called, Err(Stop::Stopped))
-        && matches!(left, Err(Stop::Memory)))
+    Ok(
+        gate.pieces.was_kept()
+            && matches!(called, Err(Stop::Stopped))
+            && matches!(left, Err(Stop::Memory)),
+    )
 }
 
 #[test]

@@ -30,8 +30,14 @@ impl<'a> Pieces<Visit<'a>, bool> for Visits {
 fn two_pieces_are_at_work_at_one_time(rt: HostRuntime) -> Result<(), Fail> {
     let meeting = Meeting::new();
     let visits = vec![in rt.alloc();
-        Visit { meeting: &meeting, worker: 0 },
-        Visit { meeting: &meeting, worker: 1 },
+        Visit {
+            meeting: &meeting,
+            worker: 0
+        },
+        Visit {
+            meeting: &meeting,
+            worker: 1
+        },
     ]?;
     let kept = run_pieces::<_, Visit, bool, Visits>(&rt, rt.alloc(), visits, 2)?;
     assert!(rt; kept.as_slice() == [true, true].as_slice());

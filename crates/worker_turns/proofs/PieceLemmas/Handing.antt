@@ -18,7 +18,7 @@ pushed_more row place places e f g was now =
     let spot : Spot = record { row = row; place = place } in
     let more : spots_of row (places ++ place ∷ []) ≡ spots_of row places ++ spot ∷ [] = map-append (λ (p : ℕ). record { row = row; place = p }) places (place ∷ []) in
     let count : e.pushes + length (spots_of row places) + 1 ≡ e.pushes + length (spots_of row (places ++ place ∷ [])) =
-        (let a = ap length more in let b = length-append (spots_of row places) (spot ∷ []) in omega (arith, a, b)) in
+    (let a = ap length more in let b = length-append (spots_of row places) (spot ∷ []) in omega (arith, a, b)) in
     now ∙ ap (after_push spot) was
     ∙ (λ i. record e { own = (append_assoc e.own (spots_of row places) (spot ∷ []) ∙ ap (λ l. e.own ++ l) (sym more)) i; pushes = count i })
 

@@ -1,2 +1,3 @@
 -- What the uses of shared structures come to.
 pub mod Drawing
+pub mod Adding

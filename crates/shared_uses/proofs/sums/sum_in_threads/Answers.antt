@@ -25,9 +25,9 @@ close-requires g c =
     let long = jobs_long (λ h. h.caller) 0 _ jobs first are in
     let count = news.count in
     let all = all_added s c.args.numbers.now (λ h. h.caller) 0 0 jobs first callers backs are c.in_ok-callers.ensures c.in_ok-backs.ensures.count (λ i j b less is there.
-        let at = job_at (λ h. h.caller) 0 _ jobs first are i j less is in
-        let new = news.each i j.caller (omega (arith, less, long, count)) at.0 in
-        subst (λ (n : ℕ). Added s c.args.numbers.now n j.from j.to b) (new.1 ∙ omega arith) (c.in_ok-backs.ensures.each i j b less is there)) in
+    let at = job_at (λ h. h.caller) 0 _ jobs first are i j less is in
+    let new = news.each i j.caller (omega (arith, less, long, count)) at.0 in
+    subst (λ (n : ℕ). Added s c.args.numbers.now n j.from j.to b) (new.1 ∙ omega arith) (c.in_ok-backs.ensures.each i j b less is there)) in
     let same = backs_long callers backs c.in_ok-callers.ensures in
     let more = c.in_ok-backs.ensures.count in
     let whole = c.in_ok-counter.ensures.all in record {
@@ -46,8 +46,8 @@ returns g c =
     let long = jobs_long (λ h. h.caller) 0 _ jobs first are in
     let count = news.count in
     let all = all_added s c.args.numbers.now (λ h. h.caller) 0 0 jobs first callers backs are c.in_ok-callers.ensures c.in_ok-backs.ensures.count (λ i j b less is there.
-        let at = job_at (λ h. h.caller) 0 _ jobs first are i j less is in
-        let new = news.each i j.caller (omega (arith, less, long, count)) at.0 in
-        subst (λ (n : ℕ). Added s c.args.numbers.now n j.from j.to b) (new.1 ∙ omega arith) (c.in_ok-backs.ensures.each i j b less is there)) in
+    let at = job_at (λ h. h.caller) 0 _ jobs first are i j less is in
+    let new = news.each i j.caller (omega (arith, less, long, count)) at.0 in
+    subst (λ (n : ℕ). Added s c.args.numbers.now n j.from j.to b) (new.1 ∙ omega arith) (c.in_ok-backs.ensures.each i j b less is there)) in
     let log = c.close.ensures.sum in
     log.2 ∙ sum_is s c.args.numbers.now jobs callers log.0 all log.1

@@ -53,6 +53,13 @@ fault_held held told fault has is = subst (λ bytes. IsFaultOf bytes fault) (sam
 refused_held : (held : Option (List ℕ)) (told : List ℕ) → held ≡ Some told → IsRefusedJob told → HoldsRefusedJob held
 refused_held held told is refused = rw is (refl, refused)
 
+-- a job that was read is not refused
+pub not_refused_job : ((text : List ℕ) (job : JobValue) (fault : JobFault) → IsJobOf text job → IsFaultOf text fault → ⊥)
+    → (held : Option (List ℕ)) (job : JobValue) → HasJob held job → HoldsRefusedJob held → ⊥
+not_refused_job apart None job has refused = cc
+not_refused_job apart (Some bytes) job has (some, inl long) = omega (arith, has.read.short, long, ap length has.read.whole)
+not_refused_job apart (Some bytes) job has (some, inr (fault, bad)) = apart bytes job fault (subst (λ text. IsJobOf text job) has.read.whole has.accepted) bad
+
 module _ (laws : Laws) (files : Files) (held : List ℕ → Option (List ℕ)) where
   -- a text that was judged is the one held, and the job is
   judged_held : (job : JobValue) (text : List ℕ) (flaw : Option Flaw) → Holds files held job text → IsJudged files held flaw → IsFlawOf job text flaw

@@ -168,10 +168,7 @@ fn a_literal_call_has_its_keys_in_front(rt: HostRuntime) -> Result<(), Fail> {
         keys: [8; 64],
         count: 2,
     };
-    let calls = [BulkCall {
-        worker: 40,
-        what,
-    }];
+    let calls = [BulkCall { worker: 40, what }];
     let set = BulkSet::new(rt.alloc())?;
     let (_set, replies) = set.batch(&rt, rt.alloc(), &calls)?;
     assert!(rt; is_one_with(&replies, &[true, false]));

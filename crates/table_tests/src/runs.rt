@@ -3,7 +3,7 @@ ghost use Rattle.std.specs.Prelude.{◌≡◌, ◌≤◌, length, IfOk, IsSome};
 ghost use Rattle.core_table.specs.Passes.{job_in, IsPassOf};
 ghost use Rattle.worker_crew.specs.Workers.{IsReady};
 
-use crate::workers::{Made, Part, Team};
+use crate::workers::{Made, Plan, Team};
 use batch_history::Report;
 use bt_io::{NoPause, Pause};
 use core_model::Receipt;
@@ -46,7 +46,7 @@ fn work_both<M: Send, C: Team<M> + Sync, R: Threads + Wait + Sync>(
     team: &C,
     zero: &mut M,
     one: &mut M,
-    parts: (Part, Part),
+    plan: Plan,
 ) -> (Result<Vec<Made>, Stop>, Result<Vec<Made>, Stop>)
     requires zero { C.ready team.now zero.old }
     requires one { C.ready team.now one.old }
@@ -54,8 +54,8 @@ fn work_both<M: Send, C: Team<M> + Sync, R: Threads + Wait + Sync>(
 {
     join_mut(
         rt,
-        &mut || team.work(rt, alloc, zero, parts.0),
-        &mut || team.work(rt, alloc, one, parts.1),
+        &mut || team.work(rt, alloc, zero, plan),
+        &mut || team.work(rt, alloc, one, plan),
     )
 }
 
@@ -66,7 +66,7 @@ pub(crate) fn work_as_crew<R: Threads + Wait + Sync, G: Pause + Sync>(
     crew: &Crew<G>,
     zero: &mut Me,
     one: &mut Me,
-    parts: (Part, Part),
+    plan: Plan,
 ) -> (Result<Vec<Made>, Stop>, Result<Vec<Made>, Stop>)
     requires workers { crew.now.workers ≡ (job_in crew.now.table).workers }
     requires zero { IsReady crew.now.table crew.now.decks crew.now.board zero.old }
@@ -75,7 +75,7 @@ pub(crate) fn work_as_crew<R: Threads + Wait + Sync, G: Pause + Sync>(
 {
     crews_go_to_threads::<G>();
     workers_go_to_threads();
-    work_both(rt, alloc, crew, zero, one, parts)
+    work_both(rt, alloc, crew, zero, one, plan)
 }
 
 /// The report of a table, where a worker sees that the root is done.
@@ -110,8 +110,8 @@ fn run_both<R: Threads + Wait + Sync, G: Pause + Sync>(
     let (crew, mut mes) = Crew::make(alloc, job, 2, pause)?;
     let mut one = mes.remove(1);
     let mut zero = mes.remove(0);
-    let parts = (Part::Calls(calls), Part::Calls(calls));
-    let (first, second) = work_as_crew(rt, alloc, &crew, &mut zero, &mut one, parts);
+    let plan = Plan::Call(calls);
+    let (first, second) = work_as_crew(rt, alloc, &crew, &mut zero, &mut one, plan);
     let (Ok(first), Ok(second)) = (first, second) else {
         return Ok(None);
     };

@@ -1,7 +1,7 @@
 //! One worker sets the stop word, and the other finds it: in the turn of a free worker, in its call, and where it waits
 //! for a result of its launch.
 use crate::runs::work_as_crew;
-use crate::workers::{Part, Team};
+use crate::workers::{Plan, Team};
 use bt_io::NoPause;
 use job_lang::read_job;
 use sp_order::Job;
@@ -22,7 +22,7 @@ fn is_stopped<R: Wait>(rt: &R, alloc: Global, job: &Job, calls: bool) -> Result<
     let mut zero = mes.remove(0);
     crew.table.stop(&mut one.pass);
     if calls {
-        let made = crew.work(rt, alloc, &mut zero, Part::Calls(1));
+        let made = crew.work(rt, alloc, &mut zero, Plan::Call(1));
         return Ok(matches!(made, Err(Stop::Stopped)));
     }
     let did = free_turn(rt, alloc, &crew, &mut zero);
@@ -53,8 +53,7 @@ fn is_stopped_in_its_wait<R: Threads + Wait + Sync>(
     let (crew, mut mes) = Crew::make(alloc, job, 2, &gate)?;
     let mut one = mes.remove(1);
     let mut zero = mes.remove(0);
-    let parts = (Part::Calls(1), Part::LeavesAPiece);
-    let (called, left) = work_as_crew(rt, alloc, &crew, &mut zero, &mut one, parts);
+    let (called, left) = work_as_crew(rt, alloc, &crew, &mut zero, &mut one, Plan::LeaveAPiece);
     Ok(
         gate.pieces.was_kept()
             && matches!(called, Err(Stop::Stopped))

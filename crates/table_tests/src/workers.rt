@@ -128,13 +128,13 @@ fn leave_a_piece<G: Pause, R: Wait>(rt: &R, crew: &Crew<G>, me: &mut Me) -> Stop
     unreachable!()
 }
 
-/// What a worker does in a run.
+/// What the workers do in a run.
 #[derive(Clone, Copy)]
-pub(crate) enum Part {
-    /// It tries the nodes until it has made so many calls, or the root is done.
-    Calls(usize),
-    /// Where it is not worker 0, it takes a piece of worker 0's launch, and leaves it.
-    LeavesAPiece,
+pub(crate) enum Plan {
+    /// Each tries the nodes until it has made so many calls, or the root is done.
+    Call(usize),
+    /// Worker 0 makes one call, and the other takes a piece of its launch, and leaves it.
+    LeaveAPiece,
 }
 
 /// What threads share of a run, seen by a test that starts them over any type that can be shared.
@@ -142,13 +142,13 @@ pub(crate) trait Team<M> {
     /// The worker can begin.
     ghost ready: { Self → M → Type 0 };
 
-    /// Lets a worker do its part, and gives the calls that it made.
+    /// Lets a worker do as planned, and gives the calls that it made.
     fn work<R: Wait>(
         &self,
         rt: &R,
         alloc: Global,
         me: &mut M,
-        part: Part,
+        plan: Plan,
     ) -> Result<Vec<Made>, Stop>
         requires ready { ready self.now me.old }
         ensures ready { IfOk result (λ _. ready self.now me.new) };
@@ -164,12 +164,12 @@ impl<'a, G: Pause> Team<Me> for Crew<'a, G> {
         rt: &R,
         alloc: Global,
         me: &mut Me,
-        part: Part,
+        plan: Plan,
     ) -> Result<Vec<Made>, Stop> {
-        match part {
-            Part::Calls(calls) => work_to(rt, alloc, self, me, calls),
-            Part::LeavesAPiece if me.hand.worker() != 0 => Err(leave_a_piece(rt, self, me)),
-            Part::LeavesAPiece => Err(Stop::Stopped),
+        match plan {
+            Plan::Call(calls) => work_to(rt, alloc, self, me, calls),
+            Plan::LeaveAPiece if me.hand.worker() != 0 => Err(leave_a_piece(rt, self, me)),
+            Plan::LeaveAPiece => work_to(rt, alloc, self, me, 1),
         }
     }
 }

@@ -1,6 +1,5 @@
 -- The specification of shared calls.
 pub mod Serial
-pub mod Counters
 pub mod Logs
 pub mod Stages
 pub mod Rule

@@ -1,5 +1,5 @@
 //! A call: it waits for its reply, and serves the calls that are posted if it wins the flag.
-ghost use Rattle.std.specs.Prelude.{◌≡◌, ℕ, ◌+◌, ◌<◌, List, [], ◌∷◌, ◌++◌, map, true, false, IfOk, IfErr, IfSome, IfNone, OnOk, OnErr};
+ghost use Rattle.std.specs.Prelude.{◌≡◌, ℕ, ◌+◌, ◌<◌, ◌≤◌, List, [], ◌∷◌, ◌++◌, length, map, true, false, IfOk, IfErr, IfSome, IfNone, OnOk, OnErr};
 ghost use Rattle.std.specs.List.{AllByRecursion};
 ghost use Rattle.shared_calls.specs.declared.view.Asked.{Asked as AskedOf};
 ghost use Rattle.shared_calls.specs.declared.view.View.{View as ViewOf};
@@ -51,6 +51,7 @@ impl<T: Combined> Shared<T> {
         requires room { HasRoom self.now.callers room }
         ensures table { seat.new.table_id ≡ seat.old.table_id }
         ensures below { AllByRecursion (λ u. u < self.now.callers) result.0.items }
+        ensures few { length result.1.items ≤ 32 }
         ensures took { (looks : ℕ) × (taken : List (AskedOf T.Op))
             × (seat.new.me ≡ (collected seat.old.me.0 looks taken, (self.now.callers, Vacant) ∷ in_hand (map (λ a. a.caller) taken)))
             × (result.0.items ≡ map (λ a. a.caller) taken) × (result.1.items ≡ map (λ a. a.op) taken) }

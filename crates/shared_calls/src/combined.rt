@@ -1,5 +1,5 @@
 //! The structures that can be shared.
-ghost use Rattle.std.specs.Prelude.{List, IfOk, OnErr};
+ghost use Rattle.std.specs.Prelude.{◌≤◌, List, length, IfOk, OnErr};
 ghost use Rattle.shared_calls.specs.Serial.{SerialObject, IsServedInSomeOrder};
 
 use std::alloc::{AllocError, Global};
@@ -20,13 +20,14 @@ pub trait Combined: Sized + Drop {
     /// What holds where the structure fails to serve these operations, for want of memory.
     ghost fails: { Self → List Self.Op → Type 0 };
 
-    /// Serves a batch, in an order of its own, and returns the replies in the order of `ops`. The structure is lost if
-    /// memory runs out.
+    /// Serves a batch of at most one operation of each caller, in an order of its own, and returns the replies in the
+    /// order of `ops`. The structure is lost if memory runs out.
     fn serve(
         self,
         alloc: Global,
         ops: Vec<Self::Op>,
     ) -> Result<(Self, Vec<Self::Reply>), AllocError>
+        requires few { length ops.items ≤ 32 }
         ensures served { IfOk result (λ p. IsServedInSomeOrder object (content self) ops.items p.1.items (content p.0)) }
         ensures failed { OnErr result (fails self ops.items) };
 }

@@ -17,8 +17,6 @@ mod rule;
 mod share;
 mod shared;
 mod steps;
-#[cfg(test)]
-mod tests;
 mod view;
 
 pub use combined::Combined;

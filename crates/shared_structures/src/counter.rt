@@ -1,5 +1,5 @@
 //! A counter that threads share.
-ghost use Rattle.std.specs.Prelude.{◌≡◌, ℕ, ◌≤◌, ◌%◌, ◌^◌, List, sum_by, false, IfOk, OnErr};
+ghost use Rattle.std.specs.Prelude.{◌≡◌, ℕ, ◌≤◌, ◌%◌, ◌^◌, List, length, sum_by, false, IfOk, OnErr};
 ghost use Rattle.shared_calls.specs.declared.view.Entry.{Entry as EntryOf};
 ghost use Rattle.shared_calls.specs.Serial.{IsServedInSomeOrder};
 ghost use Rattle.shared_calls.specs.Callers.{IsServed};
@@ -29,6 +29,7 @@ impl Combined for Counter {
     ghost fails = { λ c ops. ⊥ };
 
     fn serve(self, _alloc: Global, ops: Vec<u64>) -> Result<(Counter, Vec<u64>), AllocError>
+        requires few { length ops.items ≤ 32 }
         ensures served { IfOk result (λ p. IsServedInSomeOrder counter self.number ops.items p.1.items p.0.number) }
         ensures failed { OnErr result ⊥ }
     {

@@ -1,4 +1,5 @@
-use Rattle.std.proofs.Common.{refl, sym, ap, ◌∙◌, subst, ℕ, ◌+◌, ◌<◌, ◌≤◌, [], ◌∷◌, ◌++◌, vec_len, vec_capacity, arith}
+use Rattle.std.proofs.Common.{refl, sym, ap, ◌∙◌, subst, ℕ, ◌+◌, ◌<◌, ◌≤◌, List, [], ◌∷◌, ◌++◌, length, vec_len, vec_capacity, arith}
+use Rattle.std.proofs.lemmas.List.{length-append}
 use Rattle.std.specs.List.{AllByRecursion}
 use Rattle.shared_calls.specs.declared.view.Asked.{Asked}
 use Rattle.shared_calls.specs.declared.view.Slot.TheVariants.{Vacant}
@@ -26,6 +27,7 @@ loop-caller-init g c =
       callers = room.0;
       ops = room.1;
       below = subst (AllByRecursion (λ (u : ℕ). u < c.args.self.now.callers)) (sym room.0) tt;
+      few = let none = ap (λ (l : List _). length l) room.1 in omega (arith, none);
       room = (omega (arith, a), omega (arith, b), room.4, room.5);
     }
 
@@ -74,6 +76,10 @@ loop-caller-preserved g c =
                 ∙ sym (map_append (λ (a : Asked _). a.op) i.taken (ask caller op ∷ []))));
             below = subst (AllByRecursion (λ (u : ℕ). u < flag)) (sym (ap (λ v. v.items) w.callers-is ∙ w.push_reserved.ensures.items))
                 (each_push (λ (u : ℕ). u < flag) c.loop-caller.callers.items caller i.below less);
+            few =
+                let longer = ap (λ v. length v.items) w.ops-is ∙ (ap (λ l. length l) w.push_reserved-in-Some.ensures.items ∙ length-append c.loop-caller.ops.items (op ∷ [])) in
+                let before = i.few in
+                omega (arith, longer, before);
             room = subst (λ v. (vec_len v ≤ caller + 1) × (vec_len c.match-look.ops ≤ caller + 1) × (flag ≤ vec_capacity v) × (flag ≤ vec_capacity c.match-look.ops)) (sym w.callers-is)
                 (subst (λ v. (vec_len w.push_reserved.new.self ≤ caller + 1) × (vec_len v ≤ caller + 1) × (flag ≤ vec_capacity w.push_reserved.new.self) × (flag ≤ vec_capacity v)) (sym w.ops-is)
                 (omega (arith, a, first), omega (arith, b, second), omega (arith, x, third), omega (arith, y, fourth)));
@@ -91,6 +97,10 @@ loop-caller-preserved g c =
             callers = ap (λ v. v.items) w.callers-is ∙ i.callers;
             ops = ap (λ v. v.items) w.ops-is ∙ i.ops;
             below = subst (λ v. AllByRecursion (λ (u : ℕ). u < flag) v.items) (sym w.callers-is) i.below;
+            few =
+                let same = ap (λ v. length v.items) w.ops-is in
+                let before = i.few in
+                omega (arith, same, before);
             room = subst (λ v. (vec_len v ≤ caller + 1) × (vec_len c.match-look.ops ≤ caller + 1) × (flag ≤ vec_capacity v) × (flag ≤ vec_capacity c.match-look.ops)) (sym w.callers-is)
                 (subst (λ v. (vec_len c.loop-caller.callers ≤ caller + 1) × (vec_len v ≤ caller + 1) × (flag ≤ vec_capacity c.loop-caller.callers) × (flag ≤ vec_capacity v)) (sym w.ops-is)
                 (omega (arith, first), omega (arith, second), room.2, room.3));

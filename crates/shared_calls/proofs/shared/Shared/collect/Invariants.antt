@@ -1,4 +1,4 @@
-use Rattle.std.proofs.Common.{◌≡◌, ◌<◌, ◌≤◌, ℕ, List, ◌∷◌, map, vec_len, vec_capacity}
+use Rattle.std.proofs.Common.{◌≡◌, ◌<◌, ◌≤◌, ℕ, List, ◌∷◌, length, map, vec_len, vec_capacity}
 use Rattle.std.specs.List.{AllByRecursion}
 use Rattle.shared_calls.specs.declared.view.Asked.{Asked}
 use Rattle.shared_calls.specs.declared.view.Slot.TheVariants.{Vacant}
@@ -15,5 +15,6 @@ invariant-loop-caller g l = record {
   callers : l.callers.items ≡ map (λ a. a.caller) taken;
   ops : l.ops.items ≡ map (λ a. a.op) taken;
   below : AllByRecursion (λ u. u < l.self.callers) l.callers.items;
+  few : length l.ops.items ≤ l.caller;
   room : (vec_len l.callers ≤ l.caller) × (vec_len l.ops ≤ l.caller) × (l.self.callers ≤ vec_capacity l.callers) × (l.self.callers ≤ vec_capacity l.ops);
 }

@@ -1,9 +1,0 @@
-use Rattle.std.proofs.Common.{◌≡◌, false}
-use Rattle.shared_calls.specs.Views.{IsCallerOf, is_lost}
-use Rattle.shared_calls.proofs.tests.add_all.Given as goal
-
-abbrev pub invariant-loop : goal.invariant-loop
-invariant-loop g l = record {
-  caller : IsCallerOf l.shared l.caller;
-  sound : is_lost l.caller ≡ false;
-}

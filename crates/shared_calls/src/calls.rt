@@ -11,6 +11,7 @@ ghost use Rattle.shared_calls.specs.Rule.{IsLost};
 ghost use Rattle.shared_calls.specs.Views.{IsCallerOf, HasRoom, IfRefused, IfLost, number_of, made, seen, is_lost};
 
 use crate::combined::Combined;
+use crate::helper::{Alone, Helper};
 use crate::shared::{Caller, Failed, Room, Shared};
 use crate::steps::Won;
 use crate::view::{Slot, View};
@@ -94,8 +95,10 @@ impl<T: Combined> Shared<T> {
     }
 
     /// Serves the calls that are posted as one batch.
-    fn serve(
+    fn serve<R: Wait, H: Helper<T>>(
         &self,
+        rt: &R,
+        helper: &mut H,
         seat: &mut Seat<Slot<T, T::Op, T::Reply>, View<T::Op, T::Reply>>,
         structure: T,
         room: Room<T::Op>,
@@ -112,7 +115,7 @@ impl<T: Combined> Shared<T> {
         ensures failed { OnErr result (IsLost T.object T.content T.fails seat.old.me.0.log) }
     {
         let (callers, ops) = self.collect(seat, room);
-        let (structure, replies) = structure.serve(self.alloc, ops)?;
+        let (structure, replies) = helper.serve(rt, self.alloc, structure, ops)?;
         let replies = self.publish(seat, structure, replies);
         self.answer_all(seat, callers, replies);
         self.release(seat);
@@ -158,9 +161,10 @@ impl<T: Combined> Shared<T> {
     }
 
     /// Serves a batch, and takes the reply.
-    fn lead<R: Wait>(
+    fn lead<R: Wait, H: Helper<T>>(
         &self,
         rt: &R,
+        helper: &mut H,
         seat: &mut Seat<Slot<T, T::Op, T::Reply>, View<T::Op, T::Reply>>,
         number: usize,
         structure: T,
@@ -178,7 +182,7 @@ impl<T: Combined> Shared<T> {
         ensures lost { IfErr result (λ reply. HasStopped number seat.new.me.0 × IsLost T.object T.content T.fails seat.new.me.0.log
             × IfSome reply (λ reply. IsAnswered T.object seat.old.me.0 reply seat.new.me.0) × IfNone reply (IsRefused T.object seat.old.me.0 seat.new.me.0)) }
     {
-        match self.serve(seat, structure, room) {
+        match self.serve(rt, helper, seat, structure, room) {
             Ok(()) => Ok(self.take(rt, seat, number)),
             Err(AllocError) => {
                 self.lose(seat);
@@ -188,9 +192,10 @@ impl<T: Combined> Shared<T> {
     }
 
     /// Waits for the reply to the call that is posted: it serves the batch itself, or another caller does.
-    fn wait<R: Wait>(
+    fn wait<R: Wait, H: Helper<T>>(
         &self,
         rt: &R,
+        helper: &mut H,
         seat: &mut Seat<Slot<T, T::Op, T::Reply>, View<T::Op, T::Reply>>,
         number: usize,
         room: Room<T::Op>,
@@ -210,8 +215,16 @@ impl<T: Combined> Shared<T> {
                 return Ok(reply);
             }
             match self.win(seat, number) {
-                Won::Flag(structure) => return self.lead(rt, seat, number, structure, room),
-                Won::Held => backoff.snooze(),
+                Won::Flag(structure) => {
+                    return self.lead(rt, helper, seat, number, structure, room);
+                }
+                Won::Held(holder) => {
+                    if helper.help(holder) {
+                        backoff.reset();
+                    } else {
+                        backoff.snooze();
+                    }
+                }
                 Won::Lost => return Err(self.stop(seat, number)),
             }
         }
@@ -238,12 +251,37 @@ impl<T: Combined> Shared<T> {
         ensures unserved { IfErr result (IfLost (λ last. IfNone last (IsUnserved T.object (number_of caller.old) (made caller.old) (seen caller.old) (made caller.new) (seen caller.new)))) }
         ensures cause { IfErr result (IfLost (λ last. (log : _) × StartsWith log (seen caller.new) × IsLost T.object T.content T.fails log)) }
     {
+        self.call_with(rt, &mut Alone, caller, op)
+    }
+
+    /// Calls the structure, and waits for the reply. The helper serves the batches of the caller's turns, and helps the
+    /// callers that serve others meanwhile.
+    ///
+    /// Memory: as `call`, and what the helper takes.
+    pub fn call_with<R: Wait, H: Helper<T>>(
+        &self,
+        rt: &R,
+        helper: &mut H,
+        caller: &mut Caller<T>,
+        op: T::Op,
+    ) -> Result<T::Reply, Failed<T::Op, T::Reply>>
+        requires caller { IsCallerOf self.now caller.old }
+        requires sound { is_lost caller.old ≡ false }
+        ensures own { IsCallerOf self.now caller.new × (number_of caller.new ≡ number_of caller.old) }
+        ensures served { IfOk result (λ reply. IsServed T.object (number_of caller.old) (made caller.old) (seen caller.old) op reply (made caller.new) (seen caller.new)) }
+        ensures stays { OnOk result (is_lost caller.new ≡ false) }
+        ensures refused { IfErr result (IfRefused (λ same. (same ≡ op) × (is_lost caller.new ≡ false) × (made caller.new ≡ made caller.old) × (seen caller.new ≡ seen caller.old))) }
+        ensures lost { IfErr result (IfLost (λ reply. is_lost caller.new ≡ true)) }
+        ensures last { IfErr result (IfLost (λ last. IfSome last (λ reply. IsServed T.object (number_of caller.old) (made caller.old) (seen caller.old) op reply (made caller.new) (seen caller.new)))) }
+        ensures unserved { IfErr result (IfLost (λ last. IfNone last (IsUnserved T.object (number_of caller.old) (made caller.old) (seen caller.old) (made caller.new) (seen caller.new)))) }
+        ensures cause { IfErr result (IfLost (λ last. (log : _) × StartsWith log (seen caller.new) × IsLost T.object T.content T.fails log)) }
+    {
         let room = match self.room() {
             Ok(room) => room,
             Err(AllocError) => return Err(Failed::Refused(op)),
         };
         self.post(&mut caller.seat, caller.number, op);
-        let served = self.wait(rt, &mut caller.seat, caller.number, room);
+        let served = self.wait(rt, helper, &mut caller.seat, caller.number, room);
         match served {
             Ok(reply) => Ok(reply),
             Err(last) => {

@@ -11,6 +11,7 @@
 mod calls;
 mod close;
 mod combined;
+mod helper;
 pub mod laws;
 mod notes;
 mod rule;
@@ -20,6 +21,7 @@ mod steps;
 mod view;
 
 pub use combined::Combined;
+pub use helper::{Alone, Helper};
 pub use shared::{Caller, Failed, Note, Shared};
 #[doc(hidden)]
 pub use view::{Asked, Entry, Request, Slot, View};

@@ -20,7 +20,7 @@ use atomic_table::Seat;
 /// What a try to win the flag gives.
 pub(crate) enum Won<T> {
     Flag(T),
-    Held,
+    Held(usize),
     Lost,
 }
 
@@ -81,7 +81,7 @@ impl<T: Combined> Shared<T> {
         ensures table { seat.new.table_id ≡ seat.old.table_id }
         ensures won { (t : T) → result ≡ Flag t → (log : List (EntryOf T.Op T.Reply)) × (T.content t ≡ state_after T.object log)
             × (seat.new.me ≡ (winning seat.old.me.0 log, (self.now.callers, Vacant) ∷ [])) }
-        ensures held { result ≡ Held → seat.new.me ≡ seat.old.me }
+        ensures held { (holder : ℕ) → result ≡ Held holder → seat.new.me ≡ seat.old.me }
         ensures lost { result ≡ Lost → (log : List (EntryOf T.Op T.Reply)) × IsLost T.object T.content T.fails log × (seat.new.me ≡ (found_lost seat.old.me.0 log, [])) }
     {
         let shared = &self.table.shared;
@@ -91,7 +91,7 @@ impl<T: Combined> Shared<T> {
             return Won::Lost;
         }
         if found != 0 {
-            return Won::Held;
+            return Won::Held(found as usize - 1);
         }
         match shared.exchange(seat, flag, Slot::Vacant) {
             Slot::Whole(structure, _) => Won::Flag(structure),

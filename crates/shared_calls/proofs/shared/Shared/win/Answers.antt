@@ -47,7 +47,7 @@ returns-clause-won g c =
     same_flag a b e = cc
 
 pub returns-clause-held : goal.returns-clause-held
-returns-clause-held g c = λ e. cc
+returns-clause-held g c = λ holder e. cc
 
 pub returns-clause-lost : goal.returns-clause-lost
 returns-clause-lost g c = λ e. cc

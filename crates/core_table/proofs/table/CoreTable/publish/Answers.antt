@@ -1,7 +1,8 @@
-use Rattle.std.proofs.Common.{true, ◌≡◌, ℕ, ◌<◌, ◌+◌, [], ◌∷◌, ◌++◌, length, subst, sym, ap, ◌∙◌, arith, refl}
+use Rattle.std.proofs.Common.{true, ◌≡◌, ℕ, List, ◌<◌, ◌+◌, [], ◌∷◌, ◌++◌, length, subst, sym, ap, ◌∙◌, arith, refl}
 use Rattle.atomic_table.specs.Table.{rest}
 use Rattle.batch_history.specs.Reserved.{ReservedView}
 use Rattle.batch_history.specs.Book.{IsHistory}
+use Rattle.table_rule.specs.declared.slot.Slot.{Slot}
 use Rattle.table_rule.specs.declared.slot.Slot.TheVariants as Slots
 use Rattle.table_rule.specs.Batches.{IsPublishDue}
 use Rattle.table_rule.specs.HoldsSlots.{vacant}
@@ -12,7 +13,45 @@ use Rattle.table_rule.specs.Views.{with_step}
 use Rattle.core_table.proofs.PassLemmas.PassKept.{held_out, looks_at, looks_after, pass_made, first, swapped, turned_to, carries_published, holder_list, found_book, books}
 use Rattle.core_table.proofs.ListLemmas.Owed.{remembers_hold, owes_published}
 use Rattle.table_rule.proofs.StepLemmas.PublishStep.{admits, publishes_at}
+use Rattle.core_table.proofs.table.CoreTable.publish.Goals.{After-load, In-Book, After-exchange-2, After-turn}
 use Rattle.core_table.proofs.table.CoreTable.publish.Goals as goal
+
+-- the book as the holder has it in hand, and the vacant slots behind it
+abbrev book : After-load → ReservedView
+book c = reserved c.requires.due.0.book (room_of c.args.self.now.setting)
+
+abbrev behind : After-load → List (ℕ × Slot)
+behind c = (c.args.self.now.setting.workers, Slots.Vacant) ∷ vacant c.requires.due.0.owed
+
+-- the seat once it has looked at the count of batches
+looked : (c : After-load) → c.load.new.seat.me ≡ (c.args.pass.now.seat.me.0, (c.batch_count-at.result, Slots.Book (book c)) ∷ behind c)
+looked c =
+    let self = c.args.self.now in let pass = c.args.pass.now in let old = pass.seat in let workers = self.setting.workers in
+    let h = c.requires.due.0 in let due = c.requires.due.2 in
+    let place = c.batch_count-at.ensures ∙ ap (λ (n : ℕ). n + 1) c.layout.ensures.workers in
+    c.load.ensures.2.0 ∙ (holder_list pass.worker workers (room_of self.setting) old.me h c.requires.due.1 due.early c.requires.pass.2 c.requires.pass.6 c.requires.pass.7 ∙ ap (λ (i : ℕ). (old.me.0, (i, Slots.Book (book c)) ∷ behind c)) (sym place))
+
+-- the book that it finds in hand is that of the holder
+same : (c : In-Book) (b : ReservedView) (xs : List (ℕ × Slot)) → c.load.new.seat.me ≡ (c.args.pass.now.seat.me.0, (c.batch_count-at.result, Slots.Book b) ∷ xs) → b ≡ c.in-Book.book
+same c b xs is = books b c.in-Book.book (found_book c.load.new.seat.me _ _ c.exchange.result b xs _ is c.exchange.ensures.2 ∙ c.in-Book.is)
+
+-- the seat once the book, with the batch behind it, is put back
+put_back : (c : After-exchange-2) (b : ReservedView) (xs : List (ℕ × Slot)) → c.load.new.seat.me ≡ (c.args.pass.now.seat.me.0, (c.batch_count-at.result, Slots.Book b) ∷ xs) → b ≡ c.in-Book.book
+    → c.exchange-2.new.seat.me ≡ (c.args.pass.now.seat.me.0, (c.batch_count-at.result, Slots.Book (reserved (b.batches ++ c.args.batch ∷ []) b.capacity)) ∷ xs)
+put_back c b xs is found =
+    let v = c.args.pass.now.seat.me.0 in let at = c.batch_count-at.result in
+    swapped c.exchange.new.seat.me c.exchange-2.new.seat.me v at Slots.Vacant (Slots.Book _) xs (swapped c.load.new.seat.me c.exchange.new.seat.me v at (Slots.Book b) Slots.Vacant xs is c.exchange.ensures.3) c.exchange-2.ensures.3
+    ∙ ap (λ (r : ReservedView). (v, (at, Slots.Book r) ∷ xs)) (c.append.ensures ∙ ap (λ (r : ReservedView). reserved (r.batches ++ c.args.batch ∷ []) r.capacity) (sym found))
+
+-- the seat once the batch is published, and the slot of the book is behind the others
+published : (c : After-turn) → let h = c.requires.due.0 in let v = c.args.pass.now.seat.me.0 in let workers = c.args.self.now.setting.workers in
+    c.exchange-2.new.seat.me ≡ (v, (c.batch_count-at.result, Slots.Book (reserved (h.book ++ c.args.batch ∷ []) (room_of c.args.self.now.setting))) ∷ (workers, Slots.Vacant) ∷ vacant h.owed)
+    → c.turn.new.self.me ≡ (with_step (publishing c.args.batch) v, vacant h.owed ++ (workers, Slots.Vacant) ∷ [])
+published c is =
+    let pass = c.args.pass.now in let v = pass.seat.me.0 in let h = c.requires.due.0 in let workers = c.args.self.now.setting.workers in
+    let told = c.fetch_add.ensures.2 h c.args.batch (ap (λ (m : SeatState). m.0.own.hold) is ∙ c.requires.due.1)
+    (first _ _ _ _ _ is ∙ ap (λ (r : ℕ). (c.batch_count-at.result, Slots.Book (reserved (h.book ++ c.args.batch ∷ []) r)) ∷ rest c.exchange-2.new.seat.me.1) (sym (ap (λ (m : SeatState). m.0.room) is ∙ c.requires.pass.6))) in
+    turned_to _ c.turn.new.self.me (with_step (publishing c.args.batch) v) ((workers, Slots.Vacant) ∷ vacant h.owed) (told ∙ ap (λ (m : SeatState). (with_step (publishing c.args.batch) m.0, rest m.1)) is) c.turn.ensures.2
 
 pub load-requires : goal.load-requires
 load-requires c =
@@ -25,81 +64,47 @@ load-requires c =
 
 pub exchange-requires : goal.exchange-requires
 exchange-requires c =
-    let self = c.args.self.now in let pass = c.args.pass.now in let job = job_of self.setting in let old = pass.seat in let v = old.me.0 in let workers = self.setting.workers in let room = room_of self.setting in
-    let h = c.requires.due.0 in let holds = c.requires.due.1 in let due = c.requires.due.2 in
-    let at = c.batch_count-at.result in let place = c.batch_count-at.ensures ∙ ap (λ (n : ℕ). n + 1) c.layout.ensures.workers in
-    let book = reserved h.book room in
-    let tail = (workers, Slots.Vacant) ∷ vacant h.owed in
-    let list = c.load.ensures.2.0 ∙ (holder_list pass.worker workers room old.me h holds due.early c.requires.pass.2 c.requires.pass.6 c.requires.pass.7 ∙ ap (λ (i : ℕ). (v, (i, Slots.Book book) ∷ tail)) (sym place)) in
-    (c.load.ensures.0 ∙ c.requires.pass.0, (Slots.Book book, first c.load.new.seat.me v at (Slots.Book book) tail list))
+    let pass = c.args.pass.now in
+    let at = (goal.at.exchange-requires c).After-load in
+    (c.load.ensures.0 ∙ c.requires.pass.0, (Slots.Book (book at), first c.load.new.seat.me pass.seat.me.0 c.batch_count-at.result (Slots.Book (book at)) (behind at) (looked at)))
 
 pub unreachable-requires : goal.unreachable-requires
 unreachable-requires c =
-    let self = c.args.self.now in let pass = c.args.pass.now in let job = job_of self.setting in let old = pass.seat in let v = old.me.0 in let workers = self.setting.workers in let room = room_of self.setting in
-    let h = c.requires.due.0 in let holds = c.requires.due.1 in let due = c.requires.due.2 in
-    let at = c.batch_count-at.result in let place = c.batch_count-at.ensures ∙ ap (λ (n : ℕ). n + 1) c.layout.ensures.workers in
-    let book = reserved h.book room in
-    let tail = (workers, Slots.Vacant) ∷ vacant h.owed in
-    let list = c.load.ensures.2.0 ∙ (holder_list pass.worker workers room old.me h holds due.early c.requires.pass.2 c.requires.pass.6 c.requires.pass.7 ∙ ap (λ (i : ℕ). (v, (i, Slots.Book book) ∷ tail)) (sym place)) in
-    let found = found_book c.load.new.seat.me v at c.exchange.result book tail _ list c.exchange.ensures.2 in
-    c.in_default.not-Book book (sym found)
+    let at = (goal.at.unreachable-requires c).After-load in
+    c.in_default.not-Book (book at) (sym (found_book c.load.new.seat.me c.args.pass.now.seat.me.0 c.batch_count-at.result c.exchange.result (book at) (behind at) _ (looked at) c.exchange.ensures.2))
 
 pub append-requires : goal.append-requires
 append-requires c =
-    let self = c.args.self.now in let pass = c.args.pass.now in let job = job_of self.setting in let old = pass.seat in let v = old.me.0 in let workers = self.setting.workers in let room = room_of self.setting in
-    let h = c.requires.due.0 in let holds = c.requires.due.1 in let due = c.requires.due.2 in
-    let at = c.batch_count-at.result in let place = c.batch_count-at.ensures ∙ ap (λ (n : ℕ). n + 1) c.layout.ensures.workers in
-    let book = reserved h.book room in
-    let tail = (workers, Slots.Vacant) ∷ vacant h.owed in
-    let list = c.load.ensures.2.0 ∙ (holder_list pass.worker workers room old.me h holds due.early c.requires.pass.2 c.requires.pass.6 c.requires.pass.7 ∙ ap (λ (i : ℕ). (v, (i, Slots.Book book) ∷ tail)) (sym place)) in
-    let found = found_book c.load.new.seat.me v at c.exchange.result book tail _ list c.exchange.ensures.2 in
-    let same : book ≡ c.in-Book.book = books book c.in-Book.book (found ∙ c.in-Book.is) in
-    let admitted = c.load.ensures.2.1 h c.args.batch holds (subst (λ (n : ℕ). IsPublishDue n h c.args.batch) (sym c.requires.pass.2) due) in
+    let at = goal.at.append-requires c in
+    let found = same at.In-Book (book at.After-load) (behind at.After-load) (looked at.After-load) in
+    let h = c.requires.due.0 in
+    let admitted = c.load.ensures.2.1 h c.args.batch c.requires.due.1 (subst (λ (n : ℕ). IsPublishDue n h c.args.batch) (sym c.requires.pass.2) c.requires.due.2) in
     record {
-      room = subst (λ (b : ReservedView). length b.batches < b.capacity) same (omega (arith, admitted.1, c.requires.pass.6));
-      history = subst (λ (b : ReservedView). IsHistory (b.batches ++ c.args.batch ∷ [])) same admitted.0;
+      room = subst (λ (b : ReservedView). length b.batches < b.capacity) found (omega (arith, admitted.1, c.requires.pass.6));
+      history = subst (λ (b : ReservedView). IsHistory (b.batches ++ c.args.batch ∷ [])) found admitted.0;
     }
 
 pub fetch_add-requires : goal.fetch_add-requires
 fetch_add-requires c =
-    let self = c.args.self.now in let pass = c.args.pass.now in let job = job_of self.setting in let old = pass.seat in let v = old.me.0 in let workers = self.setting.workers in let room = room_of self.setting in
-    let h = c.requires.due.0 in let holds = c.requires.due.1 in let due = c.requires.due.2 in
-    let at = c.batch_count-at.result in let place = c.batch_count-at.ensures ∙ ap (λ (n : ℕ). n + 1) c.layout.ensures.workers in
-    let book = reserved h.book room in
-    let tail = (workers, Slots.Vacant) ∷ vacant h.owed in
-    let list = c.load.ensures.2.0 ∙ (holder_list pass.worker workers room old.me h holds due.early c.requires.pass.2 c.requires.pass.6 c.requires.pass.7 ∙ ap (λ (i : ℕ). (v, (i, Slots.Book book) ∷ tail)) (sym place)) in
-    let found = found_book c.load.new.seat.me v at c.exchange.result book tail _ list c.exchange.ensures.2 in
-    let same : book ≡ c.in-Book.book = books book c.in-Book.book (found ∙ c.in-Book.is) in
-    let whole = c.append.ensures ∙ ap (λ (b : ReservedView). reserved (b.batches ++ c.args.batch ∷ []) b.capacity) (sym same) in
-    let emptied = swapped c.load.new.seat.me c.exchange.new.seat.me v at (Slots.Book book) Slots.Vacant tail list c.exchange.ensures.3 in
-    let put_back = swapped c.exchange.new.seat.me c.exchange-2.new.seat.me v at Slots.Vacant (Slots.Book _) tail emptied c.exchange-2.ensures.3
-    ∙ ap (λ (b : ReservedView). (v, (at, Slots.Book b) ∷ tail)) whole in
+    let at = goal.at.fetch_add-requires c in
+    let load = at.After-load in
+    let back = put_back at.After-exchange-2 (book load) (behind load) (looked load) (same at.In-Book (book load) (behind load) (looked load)) in
+    let self = c.args.self.now in let pass = c.args.pass.now in let job = job_of self.setting in let v = pass.seat.me.0 in let room = room_of self.setting in
+    let h = c.requires.due.0 in
+    let place = c.batch_count-at.ensures ∙ ap (λ (n : ℕ). n + 1) c.layout.ensures.workers in
     let laws = c.laws_hold.ensures self.setting refl in (
       c.exchange-2.ensures.0 ∙ (c.exchange.ensures.0 ∙ (c.load.ensures.0 ∙ c.requires.pass.0)),
       omega (arith, self.sized.0, place),
-      rw (self.key.0, place) (λ a b d e f. let x = (publishes_at job room laws _ _ v tail pass.worker pass.number.0 pass.number.1 _ h c.args.batch (put_back ∙ ap (λ (i : ℕ). (v, (i, Slots.Book (reserved (h.book ++ c.args.batch ∷ []) room)) ∷ tail)) place)
-          holds c.requires.pass.6 due) a b d e f in (x.0, x.1, x.2, x.3.0, x.4)),
+      rw (self.key.0, place) (λ a b d e f. let x = (publishes_at job room laws _ _ v (behind load) pass.worker pass.number.0 pass.number.1 _ h c.args.batch (back ∙ ap (λ (i : ℕ). (v, (i, Slots.Book (reserved (h.book ++ c.args.batch ∷ []) room)) ∷ behind load)) place)
+          c.requires.due.1 c.requires.pass.6 c.requires.due.2) a b d e f in (x.0, x.1, x.2, x.3.0, x.4)),
     )
 
 pub invariant_of-pass : goal.invariant_of-pass
 invariant_of-pass c =
-    let self = c.args.self.now in let pass = c.args.pass.now in let job = job_of self.setting in let old = pass.seat in let v = old.me.0 in let workers = self.setting.workers in let room = room_of self.setting in
-    let h = c.requires.due.0 in let holds = c.requires.due.1 in let due = c.requires.due.2 in
-    let at = c.batch_count-at.result in let place = c.batch_count-at.ensures ∙ ap (λ (n : ℕ). n + 1) c.layout.ensures.workers in
-    let book = reserved h.book room in
-    let tail = (workers, Slots.Vacant) ∷ vacant h.owed in
-    let list = c.load.ensures.2.0 ∙ (holder_list pass.worker workers room old.me h holds due.early c.requires.pass.2 c.requires.pass.6 c.requires.pass.7 ∙ ap (λ (i : ℕ). (v, (i, Slots.Book book) ∷ tail)) (sym place)) in
-    let found = found_book c.load.new.seat.me v at c.exchange.result book tail _ list c.exchange.ensures.2 in
-    let same : book ≡ c.in-Book.book = books book c.in-Book.book (found ∙ c.in-Book.is) in
-    let whole = c.append.ensures ∙ ap (λ (b : ReservedView). reserved (b.batches ++ c.args.batch ∷ []) b.capacity) (sym same) in
-    let emptied = swapped c.load.new.seat.me c.exchange.new.seat.me v at (Slots.Book book) Slots.Vacant tail list c.exchange.ensures.3 in
-    let put_back = swapped c.exchange.new.seat.me c.exchange-2.new.seat.me v at Slots.Vacant (Slots.Book _) tail emptied c.exchange-2.ensures.3
-    ∙ ap (λ (b : ReservedView). (v, (at, Slots.Book b) ∷ tail)) whole in
-    let told = c.fetch_add.ensures.2 h c.args.batch (ap (λ (m : SeatState). m.0.own.hold) put_back ∙ holds)
-    (first _ _ _ _ _ put_back ∙ ap (λ (r : ℕ). (at, Slots.Book (reserved (h.book ++ c.args.batch ∷ []) r)) ∷ rest c.exchange-2.new.seat.me.1) (sym (ap (λ (m : SeatState). m.0.room) put_back ∙ c.requires.pass.6))) in
-    let w = with_step (publishing c.args.batch) v in
-    let here = told ∙ ap (λ (m : SeatState). (with_step (publishing c.args.batch) m.0, rest m.1)) put_back in
-    let last = turned_to _ c.turn.new.self.me w tail here c.turn.ensures.2 in
+    let at = goal.at.invariant_of-pass c in
+    let load = at.After-load in
+    let last = published at.After-turn (put_back at.After-exchange-2 (book load) (behind load) (looked load) (same at.In-Book (book load) (behind load) (looked load))) in
+    let pass = c.args.pass.now in
     record {
       number = (ap (λ (m : SeatState). m.0.own.worker) last ∙ pass.number.0, ap (λ (m : SeatState). m.0.to) last ∙ pass.number.1);
       own = (ap (λ (m : SeatState). m.0.own.task) last ∙ pass.own.0, ap (λ (m : SeatState). m.0.own.call) last ∙ pass.own.1);
@@ -108,23 +113,12 @@ invariant_of-pass c =
 
 pub returns : goal.returns
 returns c =
-    let self = c.args.self.now in let pass = c.args.pass.now in let job = job_of self.setting in let old = pass.seat in let v = old.me.0 in let workers = self.setting.workers in let room = room_of self.setting in
-    let h = c.requires.due.0 in let holds = c.requires.due.1 in let due = c.requires.due.2 in
-    let at = c.batch_count-at.result in let place = c.batch_count-at.ensures ∙ ap (λ (n : ℕ). n + 1) c.layout.ensures.workers in
-    let book = reserved h.book room in
-    let tail = (workers, Slots.Vacant) ∷ vacant h.owed in
-    let list = c.load.ensures.2.0 ∙ (holder_list pass.worker workers room old.me h holds due.early c.requires.pass.2 c.requires.pass.6 c.requires.pass.7 ∙ ap (λ (i : ℕ). (v, (i, Slots.Book book) ∷ tail)) (sym place)) in
-    let found = found_book c.load.new.seat.me v at c.exchange.result book tail _ list c.exchange.ensures.2 in
-    let same : book ≡ c.in-Book.book = books book c.in-Book.book (found ∙ c.in-Book.is) in
-    let whole = c.append.ensures ∙ ap (λ (b : ReservedView). reserved (b.batches ++ c.args.batch ∷ []) b.capacity) (sym same) in
-    let emptied = swapped c.load.new.seat.me c.exchange.new.seat.me v at (Slots.Book book) Slots.Vacant tail list c.exchange.ensures.3 in
-    let put_back = swapped c.exchange.new.seat.me c.exchange-2.new.seat.me v at Slots.Vacant (Slots.Book _) tail emptied c.exchange-2.ensures.3
-    ∙ ap (λ (b : ReservedView). (v, (at, Slots.Book b) ∷ tail)) whole in
-    let told = c.fetch_add.ensures.2 h c.args.batch (ap (λ (m : SeatState). m.0.own.hold) put_back ∙ holds)
-    (first _ _ _ _ _ put_back ∙ ap (λ (r : ℕ). (at, Slots.Book (reserved (h.book ++ c.args.batch ∷ []) r)) ∷ rest c.exchange-2.new.seat.me.1) (sym (ap (λ (m : SeatState). m.0.room) put_back ∙ c.requires.pass.6))) in
+    let at = goal.at.returns c in
+    let load = at.After-load in
+    let last = published at.After-turn (put_back at.After-exchange-2 (book load) (behind load) (looked load) (same at.In-Book (book load) (behind load) (looked load))) in
+    let self = c.args.self.now in let pass = c.args.pass.now in let old = pass.seat in let v = old.me.0 in let workers = self.setting.workers in
+    let h = c.requires.due.0 in let holds = c.requires.due.1 in
     let w = with_step (publishing c.args.batch) v in
-    let here = told ∙ ap (λ (m : SeatState). (with_step (publishing c.args.batch) m.0, rest m.1)) put_back in
-    let last = turned_to _ c.turn.new.self.me w tail here c.turn.ensures.2 in
     record {
       pass = pass_made self.setting _ pass.worker old c.turn.new.self w (vacant h.owed ++ (workers, Slots.Vacant) ∷ [])
           (c.turn.ensures.0 ∙ (c.fetch_add.ensures.0 ∙ (c.exchange-2.ensures.0 ∙ (c.exchange.ensures.0 ∙ c.load.ensures.0)))) last refl refl refl refl refl refl

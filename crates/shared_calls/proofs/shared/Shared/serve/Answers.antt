@@ -22,7 +22,7 @@ whole g c = (c.args.self.now.callers, Whole c.in_ok-structure.structure c.publis
 -- the seat then
 published : (g : Over) (c : After-publish-replies g) → let got = c.collect-callers.ensures.took in
     c.publish-replies.new.seat.me
-        ≡ (publishing (collected c.args.seat.now.me.0 got.0 got.1) c.publish-replies.ensures.published.0 c.in_ok-structure.replies.items, in_hand c.collect-callers.result.0.items ++ whole g c ∷ [])
+    ≡ (publishing (collected c.args.seat.now.me.0 got.0 got.1) c.publish-replies.ensures.published.0 c.in_ok-structure.replies.items, in_hand c.collect-callers.result.0.items ++ whole g c ∷ [])
 published g c =
     let got = c.collect-callers.ensures.took in
     let v = publishing (collected c.args.seat.now.me.0 got.0 got.1) c.publish-replies.ensures.published.0 c.in_ok-structure.replies.items in

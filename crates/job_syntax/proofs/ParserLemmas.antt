@@ -1,6 +1,7 @@
 pub mod Arguments
 pub mod Completions
 pub mod Derivations
+pub mod LetsSeen
 pub mod Levels
 pub mod MachineAnswers
 pub mod NamesSeen

@@ -1,6 +1,6 @@
 -- The names that are seen behind a front of a text: its open blocks with the items before each, and the items in the
 -- innermost.
-use Rattle.std.proofs.Common.{◌≡◌, ◌⊎◌, List, [], ◌∷◌, ◌++◌, Bool, true}
+use Rattle.std.proofs.Common.{◌≡◌, ◌⊎◌, inl, inr, List, [], ◌∷◌, ◌++◌, Bool, true}
 use Rattle.std.specs.Prelude.{if◌then◌else◌, IsTrue, ◌||◌}
 use Rattle.job_names.specs.declared.name.Name.{Name}
 use Rattle.job_syntax.specs.declared.lexer.word.Word.{Word}
@@ -13,6 +13,20 @@ use Rattle.job_syntax.specs.Code.Reached.{AreBlocks}
 abbrev pub Has : List Name → Name → Type 0
 Has [] n = ⊥
 Has (x ∷ xs) n = (x ≡ n) ⊎ Has xs n
+
+pub has_append : (xs ys : List Name) (n : Name) → Has (xs ++ ys) n → Has xs n ⊎ Has ys n
+has_append [] ys n h = inr h
+has_append (x ∷ xs) ys n (inl e) = inl (inl e)
+has_append (x ∷ xs) ys n (inr h) = elim (has_append xs ys n h) [ inl l ↦ inl (inr l) | inr r ↦ inr r ]
+
+pub has_left : (xs ys : List Name) (n : Name) → Has xs n → Has (xs ++ ys) n
+has_left (x ∷ xs) ys n (inl e) = inl e
+has_left (x ∷ xs) ys n (inr h) = inr (has_left xs ys n h)
+has_left [] ys n h = absurd h
+
+pub has_right : (xs ys : List Name) (n : Name) → Has ys n → Has (xs ++ ys) n
+has_right [] ys n h = h
+has_right (x ∷ xs) ys n h = inr (has_right xs ys n h)
 
 abbrev pub names_of : Leaf → List Name
 names_of (with_argument op argument) = []

@@ -1,25 +1,18 @@
 -- A let that is visible by the three conditions is seen behind the front.
-use Rattle.std.proofs.Common.{◌≡◌, ◌≢◌, ◌+◌, ◌⊎◌, inl, inr, Bool, true, false, not, Option, Some, None, List, [], ◌∷◌, ◌++◌, length, length-append as length_append, take, drop, map, arith, refl, sym, ap, ◌∙◌, append_assoc, append-nil, subst}
+use Rattle.std.proofs.Common.{ℕ, ◌≡◌, ◌≢◌, ◌+◌, ◌⊎◌, inl, inr, Bool, true, false, not, Option, Some, None, List, [], ◌∷◌, ◌++◌, length, length-append as length_append, take, drop, map, arith, refl, sym, ap, ◌∙◌, append_assoc, append-nil, subst}
 use Rattle.std.specs.Prelude.{if◌then◌else◌, IsTrue}
 use Rattle.std.specs.List.{AllByRecursion}
 use Rattle.job_names.specs.declared.name.Name.{Name}
+use Rattle.job_names.specs.declared.scopes.Let.{Let as NamedLet}
 use Rattle.job_syntax.specs.declared.lexer.word.Word.{Word}
 use Rattle.job_syntax.specs.declared.lexer.word.Word.TheVariants.{Open, Close, Let, Equals, Number, Copies, Named}
 use Rattle.job_syntax.specs.Grammar.{UnaryOp, work, counter_add, stack_push, tree_insert, tree_remove, tree_find, tree_next, queue_insert, Leaf, with_argument, stack_pop, queue_take, bound, BlockKind, seq_block, par_block, for_loop, pfor_loop, Items, nothing, leaf_then, block_then, unary_op_words, leaf_words, kind_words, items_words, is_number, is_argument, is_call_argument, is_loop, is_par, IsCall, IsLeaf, IsBlockKind}
 use Rattle.job_syntax.specs.Visibility.{blocks_behind, closed_by, is_in_series, Sees}
 use Rattle.job_syntax.specs.Code.Shown.{OpenBlock}
 use Rattle.job_syntax.specs.Code.Reached.{opening_words, given_words}
-use Rattle.job_syntax.proofs.ParserLemmas.NamesSeen.{Has, names_of, names_behind, names_seen, AreFlat, AreFlatBlocks}
+use Rattle.job_syntax.proofs.ParserLemmas.NamesSeen.{AreFlat, AreFlatBlocks}
+use Rattle.job_syntax.proofs.ParserLemmas.LetsSeen.{HasLet, lets_of, lets_behind, lets_seen, lets_left, lets_right}
 use Rattle.job_syntax.proofs.ParserLemmas.Visible.{closed_call, closed_items, open_items, open_leaf, open_kind, open_opening, take_inside, drop_inside, closed_opening}
-
-pub has_left : (xs ys : List Name) (n : Name) → Has xs n → Has (xs ++ ys) n
-has_left (x ∷ xs) ys n (inl e) = inl e
-has_left (x ∷ xs) ys n (inr h) = inr (has_left xs ys n h)
-has_left [] ys n h = absurd h
-
-pub has_right : (xs ys : List Name) (n : Name) → Has ys n → Has (xs ++ ys) n
-has_right [] ys n h = h
-has_right (x ∷ xs) ys n h = inr (has_right xs ys n h)
 
 -- none of the words is a let
 abbrev NoLet : List Word → Type 0
@@ -98,28 +91,28 @@ no_let_kind (pfor_loop n) is = ((λ e. cc), (no_let_number n is, ((λ e. cc), tt
 abbrev pub NoLoop : List BlockKind → Type 0
 NoLoop kinds = AllByRecursion (λ kind. is_loop kind ≡ false) kinds
 
--- The let stands in the items, in these blocks inside them.
-record Inside (items : Items) (name : Name) (front behind rest : List Word) : Type 0 where
+-- The let stands in the items, which stand behind `at` words, in these blocks inside them.
+record Inside (at : ℕ) (items : Items) (name : Name) (front behind rest : List Word) : Type 0 where
   inside : List BlockKind
   opens : (blocks : List BlockKind) → blocks_behind blocks front ≡ inside ++ blocks
   closes : closed_by behind ≡ closed_by rest + length inside
-  gives : NoLoop inside → Has (names_behind items) name
+  gives : (place : ℕ) → place ≡ at + length front → NoLoop inside → HasLet (lets_behind at items) name place
 
-abbrev Found : Items → Name → List Word → Leaf → List Word → List Word → Type 0
-Found items name front call behind rest =
-    Inside items name front behind rest ⊎ Behind front (leaf_words (bound name call) ++ behind) rest (items_words items)
+abbrev Found : ℕ → Items → Name → List Word → Leaf → List Word → List Word → Type 0
+Found at items name front call behind rest =
+    Inside at items name front behind rest ⊎ Behind front (leaf_words (bound name call) ++ behind) rest (items_words items)
 
 -- in the first leaf, or behind it
-first_leaf : (leaf : Leaf) (more : Items) (name : Name) (front : List Word) (call : Leaf) (behind rest : List Word) → IsLeaf true leaf → AreFlat more → IsCall true call
+first_leaf : (at : ℕ) (leaf : Leaf) (more : Items) (name : Name) (front : List Word) (call : Leaf) (behind rest : List Word) → IsLeaf true leaf → AreFlat more → IsCall true call
     → front ++ (leaf_words (bound name call) ++ behind) ≡ leaf_words leaf ++ (items_words more ++ rest)
-    → Inside (leaf_then leaf more) name front behind rest ⊎ Behind front (leaf_words (bound name call) ++ behind) (items_words more ++ rest) (leaf_words leaf)
-first_leaf (with_argument op w) more name front call behind rest is are whole e =
+    → Inside at (leaf_then leaf more) name front behind rest ⊎ Behind front (leaf_words (bound name call) ++ behind) (items_words more ++ rest) (leaf_words leaf)
+first_leaf at (with_argument op w) more name front call behind rest is are whole e =
     inr (past (leaf_words (with_argument op w)) front (Named name ∷ Equals ∷ (leaf_words call ++ behind)) (items_words more ++ rest) (no_let_taken op w is) e)
-first_leaf (stack_pop named) more name front call behind rest is are whole e =
+first_leaf at (stack_pop named) more name front call behind rest is are whole e =
     inr (past (leaf_words (stack_pop named)) front (Named name ∷ Equals ∷ (leaf_words call ++ behind)) (items_words more ++ rest) (no_let_call (stack_pop named) tt) e)
-first_leaf (queue_take named) more name front call behind rest is are whole e =
+first_leaf at (queue_take named) more name front call behind rest is are whole e =
     inr (past (leaf_words (queue_take named)) front (Named name ∷ Equals ∷ (leaf_words call ++ behind)) (items_words more ++ rest) (no_let_call (queue_take named) tt) e)
-first_leaf (bound given other) more name [] call behind rest is are whole e =
+first_leaf at (bound given other) more name [] call behind rest is are whole e =
     let same : given ≡ name = cc in
     let left : leaf_words call ++ behind ≡ leaf_words other ++ (items_words more ++ rest) = cc in
     let closed = sym (closed_call call behind whole) ∙ ap closed_by left ∙ closed_call other (items_words more ++ rest) is ∙ closed_items more rest are in
@@ -127,47 +120,55 @@ first_leaf (bound given other) more name [] call behind rest is are whole e =
       inside = [];
       opens = λ blocks. refl;
       closes = closed ∙ omega arith;
-      gives = λ none. has_right (names_behind more) (given ∷ []) name (inl same);
+      gives = λ place there none. lets_right (lets_behind (at + length (leaf_words (bound given other))) more) (record { name = given; number = at } ∷ []) name place (inl (same, omega (arith, there)));
     })
-first_leaf (bound given other) more name (f ∷ front) call behind rest is are whole e =
+first_leaf at (bound given other) more name (f ∷ front) call behind rest is are whole e =
     let first : f ≡ Let = cc in
     let left : front ++ (Let ∷ (Named name ∷ Equals ∷ (leaf_words call ++ behind))) ≡ (Named given ∷ Equals ∷ leaf_words other) ++ (items_words more ++ rest) = cc in
     let b = past (Named given ∷ Equals ∷ leaf_words other) front (Named name ∷ Equals ∷ (leaf_words call ++ behind)) (items_words more ++ rest) ((λ e. cc), ((λ e. cc), no_let_call other is)) left in
     inr (record { left = b.left; is = λ i. first i ∷ b.is i; stands = b.stands })
 
 -- the same behind more
-inside_later : (items more : Items) (name : Name) (before front front' behind rest : List Word) → ((blocks : List BlockKind) (words : List Word) → blocks_behind blocks (before ++ words) ≡ blocks_behind blocks words)
-    → front ≡ before ++ front' → (Has (names_behind more) name → Has (names_behind items) name) → Inside more name front' behind rest → Inside items name front behind rest
-inside_later items more name before front front' behind rest flat is into p = record {
-  inside = p.inside;
-  opens = λ blocks. ap (blocks_behind blocks) is ∙ flat blocks front' ∙ p.opens blocks;
-  closes = p.closes;
-  gives = λ none. into (p.gives none);
-}
+inside_later : (at next : ℕ) (items more : Items) (name : Name) (before front front' behind rest : List Word) → ((blocks : List BlockKind) (words : List Word) → blocks_behind blocks (before ++ words) ≡ blocks_behind blocks words)
+    → next ≡ at + length before → front ≡ before ++ front' → ((place : ℕ) → HasLet (lets_behind next more) name place → HasLet (lets_behind at items) name place)
+    → Inside next more name front' behind rest → Inside at items name front behind rest
+inside_later at next items more name before front front' behind rest flat far is into p =
+    let long = ap length is ∙ length_append before front' in
+    record {
+      inside = p.inside;
+      opens = λ blocks. ap (blocks_behind blocks) is ∙ flat blocks front' ∙ p.opens blocks;
+      closes = p.closes;
+      gives = λ place there none. into place (p.gives place (omega (arith, there, far, long)) none);
+    }
 
 behind_both : (front end rest xs ys : List Word) (b : Behind front end (ys ++ rest) xs) → Behind (Behind.left b) end rest ys → Behind front end rest (xs ++ ys)
 behind_both front end rest xs ys b c = record { left = c.left; is = b.is ∙ ap (λ ws. xs ++ ws) c.is ∙ sym (append_assoc xs ys c.left); stands = c.stands }
 
-loop_given : (kind : BlockKind) (body more : Items) (name : Name) (loop : Bool) → is_loop kind ≡ loop → loop ≡ false → Has (names_behind body) name → Has (names_behind more ++ (if loop then [] else names_behind body)) name
-loop_given kind body more name true e never h = cc
-loop_given kind body more name false e same h = has_right (names_behind more) (names_behind body) name h
+loop_given : (kind : BlockKind) (body more : List NamedLet) (name : Name) (place : ℕ) (loop : Bool) → is_loop kind ≡ loop → loop ≡ false → HasLet body name place → HasLet (more ++ (if loop then [] else body)) name place
+loop_given kind body more name place true e never h = cc
+loop_given kind body more name place false e same h = lets_right more body name place h
 
 no_loop_parts : (xs ys : List BlockKind) → NoLoop (xs ++ ys) → NoLoop xs × NoLoop ys
 no_loop_parts [] ys h = (tt, h)
 no_loop_parts (x ∷ xs) ys h = let r = no_loop_parts xs ys h.1 in ((h.0, r.0), r.1)
 
 -- in the body of a block
-in_body : (kind : BlockKind) (body more : Items) (name : Name) (front front' behind rest : List Word) → AreFlat more → front ≡ (kind_words kind ++ Open ∷ []) ++ front'
-    → Inside body name front' behind (Close ∷ (items_words more ++ rest)) → Inside (block_then kind body more) name front behind rest
-in_body kind body more name front front' behind rest are is p =
+in_body : (at : ℕ) (kind : BlockKind) (body more : Items) (name : Name) (front front' behind rest : List Word) → AreFlat more → front ≡ (kind_words kind ++ Open ∷ []) ++ front'
+    → Inside (at + length (kind_words kind ++ Open ∷ [])) body name front' behind (Close ∷ (items_words more ++ rest)) → Inside at (block_then kind body more) name front behind rest
+in_body at kind body more name front front' behind rest are is p =
     let closed = closed_items more rest are in
     let long = length_append p.inside (kind ∷ []) in
+    let far = ap length is ∙ length_append (kind_words kind ++ Open ∷ []) front' in
+    let next = at + length (items_words (block_then kind body nothing)) in
+    let inner = at + length (kind_words kind ++ Open ∷ []) in
     let closes = p.closes in
     record {
       inside = p.inside ++ kind ∷ [];
       opens = λ blocks. ap (blocks_behind blocks) (is ∙ append_assoc (kind_words kind) (Open ∷ []) front') ∙ open_kind kind blocks front' ∙ p.opens (kind ∷ blocks) ∙ sym (append_assoc p.inside (kind ∷ []) blocks);
       closes = omega (arith, closes, closed, long);
-      gives = λ none. let parts = no_loop_parts p.inside (kind ∷ []) none in loop_given kind body more name (is_loop kind) refl parts.1.0 (p.gives parts.0);
+      gives = λ place there none.
+          (let parts = no_loop_parts p.inside (kind ∷ []) none in
+          loop_given kind (lets_behind inner body) (lets_behind next more) name place (is_loop kind) refl parts.1.0 (p.gives place (omega (arith, there, far)) parts.0));
     }
 
 close_not_let : NoLet (Close ∷ [])
@@ -189,28 +190,33 @@ block_flat kind body blocks words is =
     ∙ open_items body (kind ∷ blocks) (Close ∷ words) is
 
 -- where a let stands in items and what comes behind them
-locate : (items : Items) (name : Name) (front : List Word) (call : Leaf) (behind rest : List Word) → AreFlat items → IsCall true call
-    → front ++ (leaf_words (bound name call) ++ behind) ≡ items_words items ++ rest → Found items name front call behind rest
-locate nothing name front call behind rest are whole e = inr (record { left = front; is = refl; stands = e })
-locate (leaf_then leaf more) name front call behind rest are whole e =
-    elim (first_leaf leaf more name front call behind rest are.0 are.1 whole (e ∙ append_assoc (leaf_words leaf) (items_words more) rest)) [
+locate : (at : ℕ) (items : Items) (name : Name) (front : List Word) (call : Leaf) (behind rest : List Word) → AreFlat items → IsCall true call
+    → front ++ (leaf_words (bound name call) ++ behind) ≡ items_words items ++ rest → Found at items name front call behind rest
+locate at nothing name front call behind rest are whole e = inr (record { left = front; is = refl; stands = e })
+locate at (leaf_then leaf more) name front call behind rest are whole e =
+    elim (first_leaf at leaf more name front call behind rest are.0 are.1 whole (e ∙ append_assoc (leaf_words leaf) (items_words more) rest)) [
       | inl here ↦ inl here
-      | inr b ↦ elim (locate more name b.left call behind rest are.1 whole b.stands) [
-        | inl later ↦ inl (inside_later (leaf_then leaf more) more name (leaf_words leaf) front b.left behind rest (λ blocks words. open_leaf leaf blocks words are.0) b.is (has_left (names_behind more) (names_of leaf) name) later)
+      | inr b ↦ elim (locate (at + length (leaf_words leaf)) more name b.left call behind rest are.1 whole b.stands) [
+        | inl later ↦ inl (inside_later at (at + length (leaf_words leaf)) (leaf_then leaf more) more name (leaf_words leaf) front b.left behind rest (λ blocks words. open_leaf leaf blocks words are.0) refl b.is
+            (λ place. lets_left (lets_behind (at + length (leaf_words leaf)) more) (lets_of at leaf) name place) later)
         | inr past_all ↦ inr (record { left = past_all.left; is = b.is ∙ ap (λ ws. leaf_words leaf ++ ws) past_all.is ∙ sym (append_assoc (leaf_words leaf) (items_words more) past_all.left); stands = past_all.stands })
       ]
     ]
-locate (block_then kind body more) name front call behind rest are whole e =
+locate at (block_then kind body more) name front call behind rest are whole e =
     let b = past (kind_words kind ++ Open ∷ []) front (Named name ∷ Equals ∷ (leaf_words call ++ behind)) (items_words body ++ (Close ∷ (items_words more ++ rest))) (no_let_kind kind are.2) (e ∙ block_words kind body more rest) in
-    elim (locate body name b.left call behind (Close ∷ (items_words more ++ rest)) are.0 whole b.stands) [
-      | inl inner ↦ inl (in_body kind body more name front b.left behind rest are.1 b.is inner)
+    let next = at + length (items_words (block_then kind body nothing)) in
+    let inner_at = at + length (kind_words kind ++ Open ∷ []) in
+    elim (locate inner_at body name b.left call behind (Close ∷ (items_words more ++ rest)) are.0 whole b.stands) [
+      | inl inner ↦ inl (in_body at kind body more name front b.left behind rest are.1 b.is inner)
       | inr c ↦
           let d = past (Close ∷ []) c.left (Named name ∷ Equals ∷ (leaf_words call ++ behind)) (items_words more ++ rest) close_not_let c.stands in
           let words = (kind_words kind ++ Open ∷ []) ++ (items_words body ++ Close ∷ []) in
           let is : front ≡ words ++ d.left =
           b.is ∙ ap (λ ws. (kind_words kind ++ Open ∷ []) ++ ws) (c.is ∙ ap (λ ws. items_words body ++ ws) d.is ∙ sym (append_assoc (items_words body) (Close ∷ []) d.left)) ∙ sym (append_assoc (kind_words kind ++ Open ∷ []) (items_words body ++ Close ∷ []) d.left) in
-          elim (locate more name d.left call behind rest are.1 whole d.stands) [
-            | inl later ↦ inl (inside_later (block_then kind body more) more name words front d.left behind rest (λ blocks ws. block_flat kind body blocks ws are.0) is (has_left (names_behind more) (if is_loop kind then [] else names_behind body) name) later)
+          let far : next ≡ at + length words = simp length_append (omega arith) in
+          elim (locate next more name d.left call behind rest are.1 whole d.stands) [
+            | inl later ↦ inl (inside_later at next (block_then kind body more) more name words front d.left behind rest (λ blocks ws. block_flat kind body blocks ws are.0) far is
+                (λ place. lets_left (lets_behind next more) (if is_loop kind then [] else lets_behind inner_at body) name place) later)
             | inr past_all ↦ inr (record {
               left = past_all.left;
               is = is ∙ ap (λ ws. words ++ ws) past_all.is ∙ sym (append_assoc words (items_words more) past_all.left) ∙ ap (λ ws. ws ++ past_all.left) (append_assoc (kind_words kind ++ Open ∷ []) (items_words body ++ Close ∷ []) (items_words more) ∙ append_assoc (kind_words kind) (Open ∷ []) ((items_words body ++ Close ∷ []) ++ items_words more) ∙ ap (λ ws. kind_words kind ++ Open ∷ ws) (append_assoc (items_words body) (Close ∷ []) (items_words more)));
@@ -223,28 +229,29 @@ locate (block_then kind body more) name front call behind rest are whole e =
 abbrev pub kinds_of : List OpenBlock → List BlockKind
 kinds_of blocks = map (λ (b : OpenBlock). b.kind) blocks
 
-in_series : (par : Bool) (items : Items) (name : Name) → not par ≡ true → Has (names_behind items) name → Has (if par then [] else names_behind items) name
-in_series false items name e h = h
-in_series true items name e h = cc
+in_series : (par : Bool) (lets : List NamedLet) (name : Name) (place : ℕ) → not par ≡ true → HasLet lets name place → HasLet (if par then [] else lets) name place
+in_series false lets name place e h = h
+in_series true lets name place e h = cc
 
 -- The let stands in these blocks inside the items of a block that is open, and is visible by the conditions.
-inside_seen : (blocks : List OpenBlock) (items : Items) (name : Name) (inside : List BlockKind) → NoLoop (take (length inside) (inside ++ kinds_of blocks))
-    → is_in_series (drop (length inside) (inside ++ kinds_of blocks)) ≡ true → (NoLoop inside → Has (names_behind items) name) → Has (names_seen blocks items) name
-inside_seen [] items name inside loops series gives = gives (subst NoLoop (take_inside inside []) loops)
-inside_seen (block ∷ blocks) items name inside loops series gives =
+inside_seen : (blocks : List OpenBlock) (items : Items) (name : Name) (place : ℕ) (inside : List BlockKind) → NoLoop (take (length inside) (inside ++ kinds_of blocks))
+    → is_in_series (drop (length inside) (inside ++ kinds_of blocks)) ≡ true → (NoLoop inside → HasLet (lets_behind (length (opening_words blocks)) items) name place) → HasLet (lets_seen blocks items) name place
+inside_seen [] items name place inside loops series gives = gives (subst NoLoop (take_inside inside []) loops)
+inside_seen (block ∷ blocks) items name place inside loops series gives =
+    let lets = lets_behind (length (opening_words (block ∷ blocks))) items in
     let seen = gives (subst NoLoop (take_inside inside (kinds_of (block ∷ blocks))) loops) in
     let open_now : not (is_par block.kind) ≡ true = ap is_in_series (sym (drop_inside inside (kinds_of (block ∷ blocks)))) ∙ series in
-    has_left (if is_par block.kind then [] else names_behind items) (names_seen blocks block.before) name (in_series (is_par block.kind) items name open_now seen)
+    lets_left (if is_par block.kind then [] else lets) (lets_seen blocks block.before) name place (in_series (is_par block.kind) lets name place open_now seen)
 
 -- what the conditions say, where the let is located
 located : (blocks : List OpenBlock) (items : Items) (name : Name) (front left behind tail : List Word) → AreFlatBlocks blocks → closed_by tail ≡ 0 → front ≡ opening_words blocks ++ left
     → NoLoop (take (closed_by behind) (blocks_behind [] front)) → is_in_series (drop (closed_by behind) (blocks_behind [] front)) ≡ true
-    → Inside items name left behind tail → Has (names_seen blocks items) name
+    → Inside (length (opening_words blocks)) items name left behind tail → HasLet (lets_seen blocks items) name (length front)
 located blocks items name front left behind tail are none is loops series p =
     let opened : blocks_behind [] front ≡ p.inside ++ kinds_of blocks = ap (blocks_behind []) is ∙ open_opening blocks left are ∙ p.opens (kinds_of blocks) in
     let closes = p.closes in
     let closed : closed_by behind ≡ length p.inside = omega (arith, closes, none) in
-    inside_seen blocks items name p.inside (rw (opened, closed) at loops) (rw (opened, closed) at series) p.gives
+    inside_seen blocks items name (length front) p.inside (rw (opened, closed) at loops) (rw (opened, closed) at series) (p.gives (length front) (ap length is ∙ length_append (opening_words blocks) left))
 
 opening_more : (block : OpenBlock) (blocks : List OpenBlock) (words : List Word)
     → opening_words (block ∷ blocks) ++ words ≡ opening_words blocks ++ (items_words block.before ++ ((kind_words block.kind ++ Open ∷ []) ++ words))
@@ -254,21 +261,21 @@ opening_more block blocks words = append_assoc (opening_words blocks) (items_wor
 visible_in : (blocks : List OpenBlock) (items : Items) (name : Name) (front : List Word) (call : Leaf) (behind tail : List Word) → AreFlatBlocks blocks → AreFlat items → IsCall true call → closed_by tail ≡ 0
     → NoLoop (take (closed_by behind) (blocks_behind [] front)) → is_in_series (drop (closed_by behind) (blocks_behind [] front)) ≡ true
     → front ++ (leaf_words (bound name call) ++ behind) ≡ opening_words blocks ++ (items_words items ++ tail)
-    → Has (names_seen blocks items) name ⊎ Behind front (leaf_words (bound name call) ++ behind) tail (opening_words blocks ++ items_words items)
+    → HasLet (lets_seen blocks items) name (length front) ⊎ Behind front (leaf_words (bound name call) ++ behind) tail (opening_words blocks ++ items_words items)
 visible_in [] items name front call behind tail is are whole none loops series e =
-    elim (locate items name front call behind tail are whole e) [
+    elim (locate 0 items name front call behind tail are whole e) [
       | inl p ↦ inl (located [] items name front front behind tail tt none refl loops series p)
       | inr b ↦ inr b
     ]
 visible_in (block ∷ blocks) items name front call behind tail is are whole none loops series e =
     elim (visible_in blocks block.before name front call behind ((kind_words block.kind ++ Open ∷ []) ++ (items_words items ++ tail)) is.1 is.0 whole
     (closed_opening block.kind (items_words items ++ tail) is.2 (closed_items items tail are ∙ none)) loops series (e ∙ opening_more block blocks (items_words items ++ tail))) [
-      | inl outer ↦ inl (has_right (if is_par block.kind then [] else names_behind items) (names_seen blocks block.before) name outer)
+      | inl outer ↦ inl (lets_right (if is_par block.kind then [] else lets_behind (length (opening_words (block ∷ blocks))) items) (lets_seen blocks block.before) name (length front) outer)
       | inr b ↦
           let d = past (kind_words block.kind ++ Open ∷ []) b.left (Named name ∷ Equals ∷ (leaf_words call ++ behind)) (items_words items ++ tail) (no_let_kind block.kind is.2) b.stands in
           let at : front ≡ opening_words (block ∷ blocks) ++ d.left =
           b.is ∙ ap (λ ws. (opening_words blocks ++ items_words block.before) ++ ws) d.is ∙ append_assoc (opening_words blocks) (items_words block.before) ((kind_words block.kind ++ Open ∷ []) ++ d.left) ∙ sym (opening_more block blocks d.left) in
-          elim (locate items name d.left call behind tail are whole d.stands) [
+          elim (locate (length (opening_words (block ∷ blocks))) items name d.left call behind tail are whole d.stands) [
             | inl p ↦ inl (located (block ∷ blocks) items name front d.left behind tail is none at loops series p)
             | inr c ↦ inr (record {
               left = c.left;
@@ -394,7 +401,7 @@ none_in_begun (Some given) op name (w ∷ left) call behind whole e =
 
 -- A let that is visible by the three conditions is seen behind the front.
 pub visible_is_seen : (blocks : List OpenBlock) (items : Items) (given : Option Name) (op : UnaryOp) (name : Name) → AreFlatBlocks blocks → AreFlat items
-    → Sees (opening_words blocks ++ (items_words items ++ begun_words given op)) name → Has (names_seen blocks items) name
+    → (sees : Sees (opening_words blocks ++ (items_words items ++ begun_words given op)) name) → HasLet (lets_seen blocks items) name (length sees.front)
 visible_is_seen blocks items given op name is are sees =
     elim (visible_in blocks items name sees.front sees.call sees.behind (begun_words given op) is are sees.whole (begun_closes given op) sees.loops sees.series sees.stands) [
       | inl h ↦ h

@@ -1,5 +1,5 @@
 -- The open blocks show a let of a name exactly where a use of the name behind them sees one.
-use Rattle.std.proofs.Common.{◌≡◌, ℕ, ◌⊎◌, inl, inr, Bool, true, false, true≢false, Option, Some, None, List, [], ◌∷◌, ◌++◌, refl, sym, ap, ◌∙◌, subst, is_some}
+use Rattle.std.proofs.Common.{◌≡◌, ℕ, ◌⊎◌, inl, inr, Bool, true, false, true≢false, Option, Some, None, List, [], ◌∷◌, ◌++◌, length, refl, sym, ap, ◌∙◌, subst, is_some}
 use Rattle.std.specs.Prelude.{if◌then◌else◌, IsTrue}
 use Rattle.job_names.specs.declared.name.Name.{Name}
 use Rattle.job_names.specs.declared.scopes.Let.{Let}
@@ -17,9 +17,10 @@ use Rattle.job_syntax.specs.Visibility.{Sees, is_let, ends_in_let}
 use Rattle.job_syntax.specs.Code.Machine.{OpenBlock, State, at, are_looped, Place, an_item, a_let_name, an_equals, a_let_object, an_argument, a_call, for_copies, pfor_copies, a_brace, is_known, step_at}
 use Rattle.job_syntax.specs.Code.Reached.{IsReached, opening_words, given_words, place_words}
 use Rattle.job_syntax.specs.Code.Shown.{lets_of, lets_behind, scope_at, is_shown}
-use Rattle.job_syntax.proofs.ParserLemmas.NamesSeen.{Has, names_of, names_behind, names_seen, flat_items, flat_blocks}
-use Rattle.job_syntax.proofs.ParserLemmas.Seen.{has_left, has_right, begun_closes, visible_is_seen}
-use Rattle.job_syntax.proofs.ParserLemmas.Visible.{has_append, seen_is_visible}
+use Rattle.job_syntax.proofs.ParserLemmas.NamesSeen.{Has, has_append, has_left, has_right, names_of, names_behind, names_seen, flat_items, flat_blocks}
+use Rattle.job_syntax.proofs.ParserLemmas.LetsSeen.{place_seen, name_seen}
+use Rattle.job_syntax.proofs.ParserLemmas.Seen.{begun_closes, visible_is_seen}
+use Rattle.job_syntax.proofs.ParserLemmas.Visible.{seen_is_visible}
 
 abbrev IsIn : Name → List Let → Type 0
 IsIn name lets = IsTrue (is_some (last_of name lets))
@@ -37,7 +38,7 @@ or_right (Some n) b h = refl
 or_right None b h = h
 
 -- among two lists, one behind the other
-pub in_split : (name : Name) (xs ys : List Let) → IsIn name (xs ++ ys) → IsIn name xs ⊎ IsIn name ys
+in_split : (name : Name) (xs ys : List Let) → IsIn name (xs ++ ys) → IsIn name xs ⊎ IsIn name ys
 in_split name xs ys h =
     elim (or_split (last_of name ys) (last_of name xs) (subst (λ r. IsTrue (is_some r)) (last_append name xs ys) h)) [ inl y ↦ inr y | inr x ↦ inl x ]
 
@@ -130,15 +131,17 @@ shown_from (block ∷ blocks) items name h =
 pub shown_sees : (words : List Word) (blocks : List OpenBlock) (items : Items) (given : Option Name) (op : UnaryOp) (name : Name) → IsReached words (at blocks items (an_argument given op)) →
     IsTrue (is_shown name (scope_at blocks items)) → Sees words name
 shown_sees words blocks items given op name reached shown =
+    let there = place_seen blocks items name (shown_to blocks items name shown) in
     subst (λ all. Sees all name) reached.writes
-    (seen_is_visible blocks items (given_words given ++ unary_op_words op) name (flat_blocks blocks reached.blocks) (flat_items (are_looped blocks) items reached.items) (begun_closes given op)
-    (shown_to blocks items name shown))
+    (seen_is_visible blocks items (given_words given ++ unary_op_words op) name there.0 (flat_blocks blocks reached.blocks) (flat_items (are_looped blocks) items reached.items) (begun_closes given op)
+    there.1).0
 
 pub sees_shown : (words : List Word) (blocks : List OpenBlock) (items : Items) (given : Option Name) (op : UnaryOp) (name : Name) → IsReached words (at blocks items (an_argument given op)) →
     Sees words name → IsTrue (is_shown name (scope_at blocks items))
 sees_shown words blocks items given op name reached sees =
+    let here = subst (λ all. Sees all name) (sym reached.writes) sees in
     shown_from blocks items name
-    (visible_is_seen blocks items given op name (flat_blocks blocks reached.blocks) (flat_items (are_looped blocks) items reached.items) (subst (λ all. Sees all name) (sym reached.writes) sees))
+    (name_seen blocks items name (length here.front) (visible_is_seen blocks items given op name (flat_blocks blocks reached.blocks) (flat_items (are_looped blocks) items reached.items) here))
 
 -- whether words end in `let`
 pub ends_append : (was : Bool) (xs ys : List Word) → ends_in_let was (xs ++ ys) ≡ ends_in_let (ends_in_let was xs) ys

@@ -15,7 +15,7 @@ lets_then (block_then kind body items) more =
     ap (λ l. (if is_loop kind then [] else lets_behind body) ++ l) (lets_then items more) ∙ sym (append_assoc (if is_loop kind then [] else lets_behind body) (lets_behind items) (lets_behind more))
 
 -- the scope behind more items
-pub scope_then : (blocks : List OpenBlock) (items more : Items) → with_lets (scope_at blocks items) (lets_behind more) ≡ scope_at blocks (items then more)
+scope_then : (blocks : List OpenBlock) (items more : Items) → with_lets (scope_at blocks items) (lets_behind more) ≡ scope_at blocks (items then more)
 scope_then [] items more = ap job (sym (lets_then items more))
 scope_then (block ∷ blocks) items more = ap (inside (scope_at blocks block.before) (name_kind block.kind)) (sym (lets_then items more))
 

@@ -1,20 +1,17 @@
--- A name that is seen behind a front is visible by the three conditions.
-use Rattle.std.proofs.Common.{◌≡◌, ◌+◌, ◌-◌, ◌⊎◌, inl, inr, Bool, true, false, not, List, [], ◌∷◌, ◌++◌, length, length-append as length_append, take, drop, map, arith, refl, sym, ap, ◌∙◌, append_assoc, subst}
+-- A let that is seen behind a front is visible by the three conditions.
+use Rattle.std.proofs.Common.{ℕ, ◌≡◌, ◌+◌, ◌-◌, inl, inr, Bool, true, false, not, List, [], ◌∷◌, ◌++◌, length, length-append as length_append, take, drop, map, arith, refl, sym, ap, ◌∙◌, append_assoc, subst}
 use Rattle.std.specs.Prelude.{if◌then◌else◌, IsTrue}
 use Rattle.std.specs.List.{AllByRecursion}
 use Rattle.job_names.specs.declared.name.Name.{Name}
+use Rattle.job_names.specs.declared.scopes.Let.{Let}
 use Rattle.job_syntax.specs.declared.lexer.word.Word.{Word}
 use Rattle.job_syntax.specs.declared.lexer.word.Word.TheVariants.{Open, Close, Number, Copies, Named}
 use Rattle.job_syntax.specs.Grammar.{work, counter_add, stack_push, tree_insert, tree_remove, tree_find, tree_next, queue_insert, Leaf, with_argument, stack_pop, queue_take, bound, BlockKind, seq_block, par_block, for_loop, pfor_loop, Items, nothing, leaf_then, block_then, leaf_words, kind_words, items_words, is_number, is_argument, is_call_argument, is_loop, is_par, IsCall, IsLeaf, IsBlockKind}
 use Rattle.job_syntax.specs.Visibility.{blocks_behind, closed_by, is_in_series, Sees}
 use Rattle.job_syntax.specs.Code.Shown.{OpenBlock}
 use Rattle.job_syntax.specs.Code.Reached.{opening_words}
-use Rattle.job_syntax.proofs.ParserLemmas.NamesSeen.{Has, names_of, names_behind, names_seen, AreFlat, AreFlatBlocks}
-
-pub has_append : (xs ys : List Name) (n : Name) → Has (xs ++ ys) n → Has xs n ⊎ Has ys n
-has_append [] ys n h = inr h
-has_append (x ∷ xs) ys n (inl e) = inl (inl e)
-has_append (x ∷ xs) ys n (inr h) = elim (has_append xs ys n h) [ inl l ↦ inl (inr l) | inr r ↦ inr r ]
+use Rattle.job_syntax.proofs.ParserLemmas.NamesSeen.{AreFlat, AreFlatBlocks}
+use Rattle.job_syntax.proofs.ParserLemmas.LetsSeen.{HasLet, lets_of, lets_behind, lets_seen, lets_append, block_length}
 
 -- words without braces close nothing and open nothing
 closed_argument : (w : Word) (rest : List Word) → IsTrue (is_argument true w) → closed_by (w ∷ rest) ≡ closed_by rest
@@ -140,9 +137,9 @@ open_opening (block ∷ blocks) rest h =
     ∙ open_items block.before (map (λ (b : OpenBlock). b.kind) blocks) (kind_words block.kind ++ Open ∷ rest) h.0
     ∙ open_kind block.kind (map (λ (b : OpenBlock). b.kind) blocks) rest
 
--- Where a let of this name stands in items: the blocks inside that hold it, the innermost first, of which none is a
--- loop.
-record Place (items : Items) (name : Name) : Type 0 where
+-- Where a let of this name stands in items, which stand behind `at` words, and it behind `place` of them all: the blocks
+-- inside that hold it, the innermost first, of which none is a loop.
+record Place (at : ℕ) (items : Items) (name : Name) (place : ℕ) : Type 0 where
   front : List Word
   call : Leaf
   whole : IsCall true call
@@ -152,13 +149,15 @@ record Place (items : Items) (name : Name) : Type 0 where
   opens : (blocks : List BlockKind) → blocks_behind blocks front ≡ inside ++ blocks
   closes : (rest : List Word) → closed_by (behind ++ rest) ≡ closed_by rest + length inside
   no_loop : AllByRecursion (λ kind. is_loop kind ≡ false) inside
+  is_there : place ≡ at + length front
 
 each_append : (xs ys : List BlockKind) → AllByRecursion (λ kind. is_loop kind ≡ false) xs → AllByRecursion (λ kind. is_loop kind ≡ false) ys → AllByRecursion (λ kind. is_loop kind ≡ false) (xs ++ ys)
 each_append [] ys a b = b
 each_append (x ∷ xs) ys a b = (a.0, each_append xs ys a.1 b)
 
-behind_leaf : (leaf : Leaf) (more : Items) (name : Name) → IsLeaf true leaf → Place more name → Place (leaf_then leaf more) name
-behind_leaf leaf more name is p = record {
+behind_leaf : (at : ℕ) (leaf : Leaf) (more : Items) (name : Name) (place : ℕ) → IsLeaf true leaf
+    → Place (at + length (leaf_words leaf)) more name place → Place at (leaf_then leaf more) name place
+behind_leaf at leaf more name place is p = record {
   front = leaf_words leaf ++ p.front;
   call = p.call;
   whole = p.whole;
@@ -168,10 +167,12 @@ behind_leaf leaf more name is p = record {
   opens = λ blocks. open_leaf leaf blocks p.front is ∙ p.opens blocks;
   closes = p.closes;
   no_loop = p.no_loop;
+  is_there = (let there = p.is_there in omega (arith, there, length_append (leaf_words leaf) p.front));
 }
 
-behind_block : (kind : BlockKind) (body more : Items) (name : Name) → AreFlat body → Place more name → Place (block_then kind body more) name
-behind_block kind body more name is p = record {
+behind_block : (at : ℕ) (kind : BlockKind) (body more : Items) (name : Name) (place : ℕ) → AreFlat body
+    → Place (at + length (items_words (block_then kind body nothing))) more name place → Place at (block_then kind body more) name place
+behind_block at kind body more name place is p = record {
   front = kind_words kind ++ Open ∷ (items_words body ++ Close ∷ p.front);
   call = p.call;
   whole = p.whole;
@@ -182,10 +183,12 @@ behind_block kind body more name is p = record {
   opens = λ blocks. open_kind kind blocks (items_words body ++ Close ∷ p.front) ∙ open_items body (kind ∷ blocks) (Close ∷ p.front) is ∙ p.opens blocks;
   closes = p.closes;
   no_loop = p.no_loop;
+  is_there = (let there = p.is_there in omega (arith, there, block_length kind body p.front));
 }
 
-inside_block : (kind : BlockKind) (body more : Items) (name : Name) → is_loop kind ≡ false → AreFlat more → Place body name → Place (block_then kind body more) name
-inside_block kind body more name loop is p = record {
+inside_block : (at : ℕ) (kind : BlockKind) (body more : Items) (name : Name) (place : ℕ) → is_loop kind ≡ false → AreFlat more
+    → Place (at + length (kind_words kind ++ Open ∷ [])) body name place → Place at (block_then kind body more) name place
+inside_block at kind body more name place loop is p = record {
   front = kind_words kind ++ Open ∷ p.front;
   call = p.call;
   whole = p.whole;
@@ -199,10 +202,11 @@ inside_block kind body more name loop is p = record {
   closes = λ rest. ap closed_by (append_assoc p.behind (Close ∷ items_words more) rest) ∙ p.closes (Close ∷ (items_words more ++ rest))
       ∙ (let e = closed_items more rest is in let l = length_append p.inside (kind ∷ []) in omega (arith, e, l));
   no_loop = each_append p.inside (kind ∷ []) p.no_loop (loop, tt);
+  is_there = (let there = p.is_there in omega (arith, there, length_append (kind_words kind) (Open ∷ p.front), length_append (kind_words kind) (Open ∷ [])));
 }
 
-at_leaf : (name : Name) (call : Leaf) (more : Items) → IsCall true call → AreFlat more → Place (leaf_then (bound name call) more) name
-at_leaf name call more whole is = record {
+at_leaf : (at : ℕ) (name : Name) (call : Leaf) (more : Items) (place : ℕ) → IsCall true call → AreFlat more → at ≡ place → Place at (leaf_then (bound name call) more) name place
+at_leaf at name call more place whole is e = record {
   front = [];
   call = call;
   whole = whole;
@@ -212,32 +216,36 @@ at_leaf name call more whole is = record {
   opens = λ blocks. refl;
   closes = λ rest. closed_items more rest is ∙ omega arith;
   no_loop = tt;
+  is_there = omega (arith, e);
 }
 
-place_leaf : (leaf : Leaf) (more : Items) (name : Name) → IsLeaf true leaf → AreFlat more → Has (names_of leaf) name → Place (leaf_then leaf more) name
-place_leaf (bound given call) more name fits is (inl same) = subst (λ n. Place (leaf_then (bound given call) more) n) same (at_leaf given call more fits is)
-place_leaf (bound given call) more name fits is (inr never) = absurd never
-place_leaf (with_argument op w) more name fits is never = absurd never
-place_leaf (stack_pop named) more name fits is never = absurd never
-place_leaf (queue_take named) more name fits is never = absurd never
+place_leaf : (at : ℕ) (leaf : Leaf) (more : Items) (name : Name) (place : ℕ) → IsLeaf true leaf → AreFlat more → HasLet (lets_of at leaf) name place → Place at (leaf_then leaf more) name place
+place_leaf at (bound given call) more name place fits is (inl same) = subst (λ n. Place at (leaf_then (bound given call) more) n place) same.0 (at_leaf at given call more place fits is same.1)
+place_leaf at (bound given call) more name place fits is (inr never) = absurd never
+place_leaf at (with_argument op w) more name place fits is never = absurd never
+place_leaf at (stack_pop named) more name place fits is never = absurd never
+place_leaf at (queue_take named) more name place fits is never = absurd never
 
-place_block : (kind : BlockKind) (body more : Items) (name : Name) (loop : Bool) → is_loop kind ≡ loop → AreFlat body → AreFlat more → (Has (names_behind body) name → Place body name)
-    → Has (if loop then [] else names_behind body) name → Place (block_then kind body more) name
-place_block kind body more name true e is is' in_body never = absurd never
-place_block kind body more name false e is is' in_body there = inside_block kind body more name e is' (in_body there)
+place_block : (at : ℕ) (kind : BlockKind) (body more : Items) (name : Name) (place : ℕ) (loop : Bool) (lets : List Let) → is_loop kind ≡ loop → AreFlat body → AreFlat more
+    → (HasLet lets name place → Place (at + length (kind_words kind ++ Open ∷ [])) body name place) → HasLet (if loop then [] else lets) name place → Place at (block_then kind body more) name place
+place_block at kind body more name place true lets e is is' in_body never = absurd never
+place_block at kind body more name place false lets e is is' in_body there = inside_block at kind body more name place e is' (in_body there)
 
--- each name that items give has its place in them
-place_of : (items : Items) (name : Name) → AreFlat items → Has (names_behind items) name → Place items name
-place_of nothing name is never = absurd never
-place_of (leaf_then leaf more) name is there =
-    elim (has_append (names_behind more) (names_of leaf) name there) [
-      | inl later ↦ behind_leaf leaf more name is.0 (place_of more name is.1 later)
-      | inr here ↦ place_leaf leaf more name is.0 is.1 here
+-- each let that items give has its place in them
+place_of : (at : ℕ) (items : Items) (name : Name) (place : ℕ) → AreFlat items → HasLet (lets_behind at items) name place → Place at items name place
+place_of at nothing name place is never = absurd never
+place_of at (leaf_then leaf more) name place is there =
+    let next = at + length (leaf_words leaf) in
+    elim (lets_append (lets_behind next more) (lets_of at leaf) name place there) [
+      | inl later ↦ behind_leaf at leaf more name place is.0 (place_of next more name place is.1 later)
+      | inr here ↦ place_leaf at leaf more name place is.0 is.1 here
     ]
-place_of (block_then kind body more) name is there =
-    elim (has_append (names_behind more) (if is_loop kind then [] else names_behind body) name there) [
-      | inl later ↦ behind_block kind body more name is.0 (place_of more name is.1 later)
-      | inr here ↦ place_block kind body more name (is_loop kind) refl is.0 is.1 (place_of body name is.0) here
+place_of at (block_then kind body more) name place is there =
+    let next = at + length (items_words (block_then kind body nothing)) in
+    let inner = at + length (kind_words kind ++ Open ∷ []) in
+    elim (lets_append (lets_behind next more) (if is_loop kind then [] else lets_behind inner body) name place there) [
+      | inl later ↦ behind_block at kind body more name place is.0 (place_of next more name place is.1 later)
+      | inr here ↦ place_block at kind body more name place (is_loop kind) (lets_behind inner body) refl is.0 is.1 (place_of inner body name place is.0) here
     ]
 
 pub take_inside : (xs ys : List BlockKind) → take (length xs) (xs ++ ys) ≡ xs
@@ -248,48 +256,56 @@ pub drop_inside : (xs ys : List BlockKind) → drop (length xs) (xs ++ ys) ≡ y
 drop_inside [] ys = refl
 drop_inside (x ∷ xs) ys = drop_inside xs ys
 
+-- a use of the name sees the let with this place
+abbrev pub SeesAt : List Word → Name → ℕ → Type 0
+SeesAt words name place = (sees : Sees words name) × (length sees.front ≡ place)
+
 -- Words that close nothing stand behind the items in which the let is, and its block is not parallel.
-seen_at : (blocks : List OpenBlock) (items : Items) (behind : List Word) (name : Name) → AreFlatBlocks blocks → closed_by behind ≡ 0
-    → is_in_series (map (λ (b : OpenBlock). b.kind) blocks) ≡ true → Place items name → Sees (opening_words blocks ++ (items_words items ++ behind)) name
-seen_at blocks items behind name is none series p =
+seen_at : (blocks : List OpenBlock) (items : Items) (behind : List Word) (name : Name) (place : ℕ) → AreFlatBlocks blocks → closed_by behind ≡ 0
+    → is_in_series (map (λ (b : OpenBlock). b.kind) blocks) ≡ true → Place (length (opening_words blocks)) items name place → SeesAt (opening_words blocks ++ (items_words items ++ behind)) name place
+seen_at blocks items behind name place is none series p =
     let kinds_now = map (λ (b : OpenBlock). b.kind) blocks in
     let opened : blocks_behind [] (opening_words blocks ++ p.front) ≡ p.inside ++ kinds_now = open_opening blocks p.front is ∙ p.opens kinds_now in
     let closed : closed_by (p.behind ++ behind) ≡ length p.inside = p.closes behind ∙ omega (arith, none) in
-    record {
-      front = opening_words blocks ++ p.front;
-      call = p.call;
-      whole = p.whole;
-      behind = p.behind ++ behind;
-      stands = append_assoc (opening_words blocks) p.front (leaf_words (bound name p.call) ++ (p.behind ++ behind))
-          ∙ ap (λ ws. opening_words blocks ++ ws)
-          (ap (λ ws. p.front ++ ws) (sym (append_assoc (leaf_words (bound name p.call)) p.behind behind))
-          ∙ sym (append_assoc p.front (leaf_words (bound name p.call) ++ p.behind) behind) ∙ ap (λ ws. ws ++ behind) p.stands);
-      loops = rw (opened, closed, take_inside p.inside kinds_now) p.no_loop;
-      series = rw (opened, closed, drop_inside p.inside kinds_now) series;
-    }
+    let there = p.is_there in (
+      record {
+        front = opening_words blocks ++ p.front;
+        call = p.call;
+        whole = p.whole;
+        behind = p.behind ++ behind;
+        stands = append_assoc (opening_words blocks) p.front (leaf_words (bound name p.call) ++ (p.behind ++ behind))
+            ∙ ap (λ ws. opening_words blocks ++ ws)
+            (ap (λ ws. p.front ++ ws) (sym (append_assoc (leaf_words (bound name p.call)) p.behind behind))
+            ∙ sym (append_assoc p.front (leaf_words (bound name p.call) ++ p.behind) behind) ∙ ap (λ ws. ws ++ behind) p.stands);
+        loops = rw (opened, closed, take_inside p.inside kinds_now) p.no_loop;
+        series = rw (opened, closed, drop_inside p.inside kinds_now) series;
+      },
+      omega (arith, there, length_append (opening_words blocks) p.front),
+    )
 
 -- What is begun behind a front has no braces.
 pub closed_opening : (kind : BlockKind) (rest : List Word) → IsBlockKind kind → closed_by rest ≡ 0 → closed_by ((kind_words kind ++ Open ∷ []) ++ rest) ≡ 0
 closed_opening kind rest fits none = ap closed_by (append_assoc (kind_words kind) (Open ∷ []) rest) ∙ closed_kind kind rest fits ∙ omega (arith, none)
 
-inner : (block : OpenBlock) (blocks : List OpenBlock) (items : Items) (begun : List Word) (name : Name) (par : Bool) → is_par block.kind ≡ par
+inner : (block : OpenBlock) (blocks : List OpenBlock) (items : Items) (begun : List Word) (name : Name) (place : ℕ) (par : Bool) → is_par block.kind ≡ par
     → AreFlatBlocks (block ∷ blocks) → AreFlat items → closed_by begun ≡ 0
-    → Has (if par then [] else names_behind items) name → Sees (opening_words (block ∷ blocks) ++ (items_words items ++ begun)) name
-inner block blocks items begun name true e is are none never = absurd never
-inner block blocks items begun name false e is are none there = seen_at (block ∷ blocks) items begun name is none (ap not e) (place_of items name are there)
+    → HasLet (if par then [] else lets_behind (length (opening_words (block ∷ blocks))) items) name place → SeesAt (opening_words (block ∷ blocks) ++ (items_words items ++ begun)) name place
+inner block blocks items begun name place true e is are none never = absurd never
+inner block blocks items begun name place false e is are none there =
+    seen_at (block ∷ blocks) items begun name place is none (ap not e) (place_of (length (opening_words (block ∷ blocks))) items name place are there)
 
--- A name that is seen behind a front is visible there by the three conditions.
-pub seen_is_visible : (blocks : List OpenBlock) (items : Items) (begun : List Word) (name : Name) → AreFlatBlocks blocks → AreFlat items → closed_by begun ≡ 0
-    → Has (names_seen blocks items) name → Sees (opening_words blocks ++ (items_words items ++ begun)) name
-seen_is_visible [] items begun name is are none there = seen_at [] items begun name tt none refl (place_of items name are there)
-seen_is_visible (block ∷ blocks) items begun name is are none there =
-    elim (has_append (if is_par block.kind then [] else names_behind items) (names_seen blocks block.before) name there) [
-      | inl here ↦ inner block blocks items begun name (is_par block.kind) refl is are none here
+-- A let that is seen behind a front is visible there by the three conditions.
+pub seen_is_visible : (blocks : List OpenBlock) (items : Items) (begun : List Word) (name : Name) (place : ℕ) → AreFlatBlocks blocks → AreFlat items → closed_by begun ≡ 0
+    → HasLet (lets_seen blocks items) name place → SeesAt (opening_words blocks ++ (items_words items ++ begun)) name place
+seen_is_visible [] items begun name place is are none there = seen_at [] items begun name place tt none refl (place_of 0 items name place are there)
+seen_is_visible (block ∷ blocks) items begun name place is are none there =
+    elim (lets_append (if is_par block.kind then [] else lets_behind (length (opening_words (block ∷ blocks))) items) (lets_seen blocks block.before) name place there) [
+      | inl here ↦ inner block blocks items begun name place (is_par block.kind) refl is are none here
       | inr outer ↦
           let behind = (kind_words block.kind ++ Open ∷ []) ++ (items_words items ++ begun) in
           let closes = closed_opening block.kind (items_words items ++ begun) is.2 (closed_items items begun are ∙ none) in
-          subst (λ ws. Sees ws name)
+          subst (λ ws. SeesAt ws name place)
           (sym (append_assoc (opening_words blocks) (items_words block.before ++ (kind_words block.kind ++ Open ∷ [])) (items_words items ++ begun)
           ∙ ap (λ ws. opening_words blocks ++ ws) (append_assoc (items_words block.before) (kind_words block.kind ++ Open ∷ []) (items_words items ++ begun))))
-          (seen_is_visible blocks block.before behind name is.1 is.0 closes outer)
+          (seen_is_visible blocks block.before behind name place is.1 is.0 closes outer)
     ]

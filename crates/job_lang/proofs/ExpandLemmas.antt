@@ -8,7 +8,6 @@ pub mod Joined
 pub mod Scoped
 pub mod Sourcing
 pub mod Before
-pub mod Naming
 pub mod Listing
 pub mod Kept
 pub mod Places

@@ -11,6 +11,7 @@ pub mod Orders
 pub mod Objects
 pub mod Meaning
 pub mod Uses
+pub mod Places
 pub mod Limits
 pub mod Language
 pub mod ActNumbers

@@ -3,12 +3,16 @@ ghost use Rattle.std.specs.Prelude.{◌≡◌, ◌<◌, ◌^◌, ◌⊎◌, ℕ,
 ghost use Rattle.std.specs.List.{AllByRecursion};
 ghost use Rattle.seq_objects.specs.Objects.{argument_of};
 ghost use Rattle.sp_order.specs.Jobs.{JobValue, IsJob};
+ghost use Rattle.sp_order.specs.Objects.{with_numbers};
 ghost use Rattle.sp_order.specs.Totals.{count_of_act};
 ghost use Rattle.job_lang.specs.Meaning.{objects_in};
-ghost use Rattle.job_lang.specs.Objects.{object_called};
+ghost use Rattle.job_lang.specs.Objects.{object_called, numbers_of};
 ghost use Rattle.job_lang.specs.Uses.{uses_in};
 ghost use Rattle.job_lang.specs.ActNumbers.{AreSmall};
 ghost use Rattle.job_lang.specs.Language.{IsJobOf, Accepts, IsFaultOf};
+ghost use Rattle.job_lang.specs.Places.{act_at, placed_leaves, HaveTheirLets};
+ghost use Rattle.job_syntax.specs.Faults.{words_of};
+ghost use Rattle.job_syntax.specs.Words.{words_on_lines};
 ghost use Rattle.job_syntax.specs.declared.fault.JobFault.{JobFault};
 
 /// Each text has one job or one fault, and not both.
@@ -31,6 +35,16 @@ pub fn accepted_jobs_are_jobs()
 /// The leaves of an accepted text that use a name are those that have a source.
 pub fn uses_have_sources()
     ensures { (text : List ℕ) (job : JobValue) (is : IsJobOf text job) → map is_some job.sources ≡ uses_in is.items }
+{}
+
+/// The source of a leaf is the leaf of the last `let` of its name that the use sees in the text, in the same copy of each
+/// loop that holds both; a leaf that uses no name has none. The leaves that have places in the text are those of the job,
+/// in their order.
+pub fn uses_mean_the_last_let_that_they_see()
+    ensures sources { (text : List ℕ) (job : JobValue) (is : IsJobOf text job)
+        → HaveTheirLets (words_of (words_on_lines text)) (placed_leaves is.items) job.sources }
+    ensures leaves { (text : List ℕ) (job : JobValue) (is : IsJobOf text job)
+        → job.acts ≡ with_numbers (map act_at (placed_leaves is.items)) (numbers_of (objects_in is.items)) }
 {}
 
 /// The objects with names that the leaves of an accepted text name are those that the acts of its job call.

@@ -117,7 +117,7 @@ next_agrees : (scope : Scope) (more : List Let) (new known : List Known) → Agr
 next_agrees (job lets) more new known e f = agrees_both new known lets more e f
 next_agrees (inside outer kind lets) more new known e f = next_in (is_par kind) (lets_shown outer) lets more new known e f
 
-pub opened : (par : Bool) (lets : List Let) → lets ++ (if par then [] else []) ≡ lets
+opened : (par : Bool) (lets : List Let) → lets ++ (if par then [] else []) ≡ lets
 opened true lets = append-nil lets
 opened false lets = append-nil lets
 

@@ -1,0 +1,5 @@
+pub mod Lists
+pub mod Orders
+pub mod Placed
+pub mod Known
+pub mod Meant

@@ -4,12 +4,18 @@ use mathlib.Core.Option.{none}
 use Rattle.atomic_table.specs.Table.{step, rest, Allows}
 use Rattle.piece_board.specs.declared.view.Content.{Content}
 use Rattle.piece_board.specs.declared.view.Content.TheVariants.{Nothing, Input, Output}
+use Rattle.piece_board.specs.declared.work.Work.{Ghosts}
+use Rattle.piece_board.specs.declared.board.Board.{Board}
+use Rattle.piece_board.specs.declared.board.Desk.{Desk}
 use Rattle.piece_board.specs.declared.view.DeskView.{DeskView}
+use Rattle.piece_board.specs.declared.view.Miss.{Miss}
 use Rattle.piece_board.specs.declared.view.View.{View}
 use Rattle.piece_board.specs.Entries.{entry_at}
 use Rattle.piece_board.specs.Desks.{number_of, posted_at, after_post, after_refusal, after_finish}
 use Rattle.piece_board.specs.Rule.{ObeysRule}
-use Rattle.piece_board.specs.Steps.{SeatAt, with_in_hand, then_desk, then_desk_with, Posts, Strays, Finishes, PutsBack}
+use Rattle.piece_board.specs.Moments.{IsMissAt}
+use Rattle.piece_board.specs.Boards.{workers_of, IsMissOf}
+use Rattle.piece_board.specs.Steps.{SeatAt, with_in_hand, then_desk, then_desk_with, Misses, Posts, Strays, Finishes, PutsBack}
 use Rattle.piece_board.proofs.RuleLemmas.Steps.{IsOwn, posts, puts_own, puts_claim, finishes}
 
 -- a place of a row of the board is a place of its table
@@ -82,14 +88,14 @@ module _ {I O : Type 0} where
 module _ {I O : Type 0} (slots k place : ℕ) (m n p q : SeatAt I O) (empty : m.1 ≡ []) where
   pub post_leaves : (x : I) → IsOwn m.0 k place → n ≡ (with_in_hand (k + 1) m.0, (k, Nothing) ∷ m.1)
       → p ≡ (n.0, (k, Input x) ∷ rest n.1) → Posts (step slots k 1 0 none) p 1 q
-      → q ≡ (then_desk (after_post place x) m.0, [])
+      → q ≡ (then_desk k (after_post place x) m.0, [])
   post_leaves x own taken then told =
       (subst (λ (r : SeatAt I O). Posts (step slots k 1 0 none) r 1 q)
       (written m n p (with_in_hand (k + 1) m.0) k Nothing (Input x) taken empty then) told) place x own.number refl
 
   pub finish_leaves : (row : ℕ) (y : O) → place < 56 → k ≡ number_of row place
       → n ≡ (with_in_hand (k + 1) m.0, (k, Nothing) ∷ m.1) → p ≡ (n.0, (k, Output y) ∷ rest n.1)
-      → Finishes (step slots k 3 0 none) p 3 q → q ≡ (then_desk (after_finish row place) m.0, [])
+      → Finishes (step slots k 3 0 none) p 3 q → q ≡ (then_desk k (after_finish row place) m.0, [])
   finish_leaves row y below number taken then told =
       (subst (λ (r : SeatAt I O). Finishes (step slots k 3 0 none) r 3 q)
       (written m n p (with_in_hand (k + 1) m.0) k Nothing (Output y) taken empty then) told) row place below number
@@ -97,7 +103,7 @@ module _ {I O : Type 0} (slots k place : ℕ) (m n p q : SeatAt I O) (empty : m.
   -- a claim or a collect, which changes the desk in its first step
   pub take_leaves : (found : ℕ) (f : DeskView I → DeskView I) (x : Content I O)
       → n ≡ (then_desk_with k f m.0, (k, x) ∷ m.1) → p ≡ (n.0, (k, Nothing) ∷ rest n.1)
-      → PutsBack (step slots k 0 0 none) p found q → q ≡ (then_desk f m.0, [])
+      → PutsBack (step slots k 0 0 none) p found q → q ≡ (then_desk k f m.0, [])
   take_leaves found f x taken then told =
       subst (λ (r : SeatAt I O). PutsBack (step slots k 0 0 none) r found q)
       (written m n p (then_desk_with k f m.0) k x Nothing taken empty then) told
@@ -107,12 +113,18 @@ pub nothing_leaves : {I O : Type 0} (m q : SeatAt I O) (w : View I) → m.1 ≡ 
 nothing_leaves m q w empty is = is ∙ ap (λ (l : List (ℕ × Content _ _)). (w, l)) empty
 
 -- a claim outside the board
-pub stray_leaves : {I O : Type 0} (slots rows row place first second found : ℕ) (m q : SeatAt I O) → m.1 ≡ []
+pub stray_leaves : {I O : Type 0} (meets : I → O → Type 0) (slots rows row place first second found : ℕ) (m q : SeatAt I O)
     → slots ≡ 56 * rows → first ≡ row → second ≡ place → (row < rows → 56 ≤ place)
-    → Strays (step slots 0 (4 + first) second none) m found q → q ≡ (then_desk (after_refusal row place) m.0, [])
-stray_leaves slots rows row place first second found m q empty all row_is place_is outside told =
+    → Strays meets (step slots 0 (4 + first) second none) m found q → Misses meets (after_refusal row place) (step slots 0 (4 + first) second none) m found q
+stray_leaves meets slots rows row place first second found m q all row_is place_is outside told =
     told row place (ap (λ (k : ℕ). 4 + k) row_is) place_is (λ below. outside (omega (arith, all, below)))
-    ∙ ap (λ (l : List (ℕ × Content _ _)). (then_desk (after_refusal row place) m.0, l)) empty
+
+-- a miss at a place of the table, as a call tells of it
+pub miss_told : {W I O : Type 0} {g : Ghosts W I O} (b : Board W I O) (d : Desk W I O g) (slots place k : ℕ) (miss : Miss) → slots ≡ 56 * workers_of b → place ≡ k
+    → IsMissAt g.meets slots d.seat.me.0 place miss → IsMissOf b d k miss
+unfolding IsMissOf
+miss_told {W} {I} {O} {g} b d slots place k miss wide is h =
+    subst (λ (p : ℕ × ℕ). IsMissAt g.meets p.0 d.seat.me.0 p.1 miss) (λ e. (wide e, is e)) h
 
 -- the steps of a seat that has exactly this slot in hand
 module _ {I O : Type 0} (meets : I → O → Type 0) (n seat : ℕ) (m : SeatAt I O) (v : View I) (k : ℕ) (inside : k < n) where

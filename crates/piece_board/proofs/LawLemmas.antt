@@ -1,10 +1,11 @@
 -- The consequences of the rule of a board for its places.
 use Rattle.std.proofs.Common.{◌≡◌, ◌≢◌, ℕ, ◌+◌, ◌<◌, length, get_or, Some, sym, ap, ◌∙◌, arith}
-use Rattle.std.specs.List.{sum_by}
+use Rattle.std.specs.List.{sum_by, AllByRecursion}
 use mathlib.Core.Option.{some}
 use lib.ListN.{get_elem?}
 use Rattle.piece_board.specs.declared.view.View.{View}
 use Rattle.piece_board.specs.Entries.{entry_at}
+use Rattle.piece_board.specs.Trace.{IsTrueIn, AreInOrder}
 use Rattle.piece_board.specs.Rule.{one_at, claims_at, posts_at, ObeysRule}
 use Rattle.piece_board.proofs.RuleLemmas.Places.{BoardState}
 use Rattle.piece_board.proofs.RuleLemmas.Counts.{none_else}
@@ -27,3 +28,7 @@ module _ {I O : Type 0} (meets : I → O → Type 0) (s : BoardState I O) where
       let first = o.claims seat v k x me mine in
       let second = o.claims other w k y you yours in
       (sym first.0 ∙ second.0, λ is_open. omega (arith, first.1, is_open))
+
+  pub missed_truly : (o : ObeysRule meets s) (seat : ℕ) (v : View I) → get_elem? s.views seat ≡ some v
+      → AllByRecursion (IsTrueIn seat o.traced.trace) v.misses × AreInOrder v.misses
+  missed_truly o seat v me = o.traced.misses seat v me

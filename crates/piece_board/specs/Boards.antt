@@ -1,11 +1,15 @@
 -- What contracts see of a board, its desks and their claims, and which of them belong together.
-use Rattle.std.specs.Prelude.{ℕ, ◌≡◌, ◌<◌, List, length, slice_index_or, Option}
+use Rattle.std.specs.Prelude.{ℕ, ◌≡◌, ◌<◌, ◌+◌, ◌*◌, List, length, slice_index_or, Option}
 use Rattle.piece_board.specs.declared.work.Work.{Ghosts}
 use Rattle.piece_board.specs.declared.board.Board.{Board}
 use Rattle.piece_board.specs.declared.board.Desk.{Desk}
 use Rattle.piece_board.specs.declared.board.Claim.{Claim}
 use Rattle.piece_board.specs.declared.view.DeskView.{DeskView}
+use Rattle.piece_board.specs.declared.view.Miss.{Miss}
+use Rattle.piece_board.specs.declared.view.View.{View}
 use Rattle.piece_board.specs.Desks.{fresh_desk, claimed_at}
+use Rattle.piece_board.specs.Rule.{fresh_view}
+use Rattle.piece_board.specs.Moments.{IsMissAt}
 
 -- the number of workers, each of which has a row
 abbrev pub workers_of : {W I O : Type 0} → Board W I O → ℕ
@@ -20,8 +24,16 @@ abbrev pub IsClaimOf : {W I O : Type 0} → Board W I O → Claim W → Type 0
 IsClaimOf b c = c.row < b.rows
 
 module _ {W I O : Type 0} {g : Ghosts W I O} where
+  -- the view of a desk's seat
+  abbrev pub view : Desk W I O g → View I
+  view d = d.seat.me.0
+
   abbrev pub desk_view : Desk W I O g → DeskView I
   desk_view d = d.seat.me.0.desk
+
+  -- what a call with this desk finds in the word of place `k`, where that is not what it looks for
+  unfoldable pub IsMissOf : Board W I O → Desk W I O g → ℕ → Miss → Type 0
+  IsMissOf b d k miss = IsMissAt g.meets (56 * workers_of b) (view d) k miss
 
   -- the input at the claim's place, if the desk claimed it and has not finished it
   abbrev pub claimed_by : Claim W → Desk W I O g → Option I
@@ -38,6 +50,7 @@ pub record AreDesksUpTo {W I O : Type 0} {g : Ghosts W I O} (n : ℕ) (b : Board
   pub count : length desks ≡ n
   pub each : (w : ℕ) (d : Desk W I O g) → w < n → d ≡ slice_index_or desks w d
       → IsDeskOf b d × (desk_view d ≡ fresh_desk w)
+  pub new : (w : ℕ) (d : Desk W I O g) → w < n → d ≡ slice_index_or desks w d → view d ≡ fresh_view w (w + 1)
 
 -- the initial desks of all workers, in their order
 abbrev pub AreDesks : {W I O : Type 0} {g : Ghosts W I O} → Board W I O → List (Desk W I O g) → Type 0

@@ -1,5 +1,5 @@
 -- The invariant of a board. The word of a place is its state: 0 free, 1 open, 2 claimed, 3 full.
-use Rattle.std.specs.Prelude.{ℕ, ◌≡◌, ◌≢◌, ◌+◌, ◌-◌, ◌*◌, ◌<◌, ◌≤◌, ◌==◌, length, slice_index, Option, None, Some, if◌then◌else◌}
+use Rattle.std.specs.Prelude.{ℕ, ◌≡◌, ◌≢◌, ◌+◌, ◌-◌, ◌*◌, ◌<◌, ◌≤◌, ◌==◌, [], length, slice_index, Option, None, Some, if◌then◌else◌}
 use Rattle.std.specs.List.{sum_by}
 use mathlib.Core.Option.{some}
 use lib.ListN.{get_elem?}
@@ -9,6 +9,7 @@ use Rattle.piece_board.specs.declared.view.Content.TheVariants.{Nothing, Input, 
 use Rattle.piece_board.specs.declared.view.View.{View}
 use Rattle.piece_board.specs.Entries.{entry_at, AreApart}
 use Rattle.piece_board.specs.Desks.{number_of, fresh_desk}
+use Rattle.piece_board.specs.Trace.{HasTrace}
 
 -- 1 if `n` is `k`, otherwise 0
 abbrev pub one_at : ℕ → ℕ → ℕ
@@ -17,7 +18,8 @@ one_at k n = if n == k then 1 else 0
 module _ {I : Type 0} where
   -- an initial seat with the rows from `row` up to, but not including, `end_row`
   abbrev pub fresh_view : ℕ → ℕ → View I
-  fresh_view row end_row = record { desk = fresh_desk row; end_row = end_row; in_hand = 0 }
+  fresh_view row end_row =
+      record { desk = fresh_desk row; end_row = end_row; in_hand = 0; events = []; misses = [] }
 
   -- the first seat, which has all rows
   abbrev pub first_view : ℕ → View I
@@ -61,7 +63,7 @@ pub record PlaceStands {I O : Type 0} (meets : I → O → Type 0) (s : State (C
 
 -- Each place has an owner, the seat in whose rows it lies, and a claimer. A seat's `posted` list is right for each of
 -- its places. An entry in a seat's `claims` means that the place is claimed, this seat is its claimer, and the entry is
--- its last post. At each place, claims equal posts, or are one less if the place is open.
+-- its last post. At each place, claims equal posts, or are one less if the place is open. A trace leads to the words.
 pub record ObeysRule {I O : Type 0} (meets : I → O → Type 0) (s : State (Content I O) (View I)) : Type 0 where
   pub last : ℕ → Option I
   pub owner : ℕ → ℕ
@@ -80,3 +82,4 @@ pub record ObeysRule {I O : Type 0} (meets : I → O → Type 0) (s : State (Con
       → AreApart v.desk.posted × AreApart v.desk.claims
   pub once : (k : ℕ) → k < length s.homes
       → sum_by (claims_at k) s.views + one_at 1 (slice_index s.words k) ≡ sum_by (posts_at k) s.views
+  pub traced : HasTrace s.words s.views

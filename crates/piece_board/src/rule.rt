@@ -49,17 +49,21 @@ impl<I, O> Play<Content<I, O>, View<I>> for Posted {
 }
 
 /// A claim: an open place becomes claimed, or the claim is refused.
-pub struct Claimed;
+pub struct Claimed<W> {
+    work: PhantomData<W>,
+}
 
-impl<I, O> Play<Content<I, O>, View<I>> for Claimed {
-    ghost then = { Claims };
+impl<W: Work> Play<Content<W::In, W::Out>, View<W::In>> for Claimed<W> {
+    ghost then = { Claims W.meets };
 }
 
 /// A refused claim outside the board.
-pub struct Strayed;
+pub struct Strayed<W> {
+    work: PhantomData<W>,
+}
 
-impl<I, O> Play<Content<I, O>, View<I>> for Strayed {
-    ghost then = { Strays };
+impl<W: Work> Play<Content<W::In, W::Out>, View<W::In>> for Strayed<W> {
+    ghost then = { Strays W.meets };
 }
 
 /// A finish: a claimed place becomes full.

@@ -32,6 +32,17 @@ pub struct DeskView<I> {
     pub refused: LinkedList<(u64, u64)>,
 }
 
+/// A look that did not find what it was for, and so left its word as it was. No value of this type is ever built.
+#[derive(Clone, Copy)]
+pub struct Miss {
+    /// The place whose word it is, by its number on the board, and the number found there.
+    pub word: u64,
+    pub found: u64,
+    /// The moment of the look: the length of the trace then, and how many of its events were the seat's own.
+    pub moment: u64,
+    pub events: u64,
+}
+
 /// The knowledge of a seat at the board. No value of this type is ever built.
 pub struct View<I> {
     /// What contracts see of the seat as a desk.
@@ -41,4 +52,8 @@ pub struct View<I> {
     pub end_row: u64,
     /// One more than the number of the place whose slot the seat has in hand, or 0 if it has none.
     pub in_hand: u64,
+    /// The places whose words it changed, by their numbers on the board, one for each change, the oldest first.
+    pub events: LinkedList<u64>,
+    /// Its misses, the newest first: each refused claim, and each collect that found no result.
+    pub misses: LinkedList<Miss>,
 }

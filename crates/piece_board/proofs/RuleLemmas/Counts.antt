@@ -25,9 +25,9 @@ pub none_else : (k n : ℕ) → n ≢ k → one_at k n ≡ 0
 none_else k n ne = ap (λ b. if b then 1 else 0) (ne_eqb n k ne)
 
 module _ {I : Type 0} where
-  pub posts_more : (j place : ℕ) (x : I) (v : View I)
-      → posts_at j (then_desk (after_post place x) v) ≡ posts_at j v + one_at j (number_of v.desk.row place)
-  posts_more j place x v =
+  pub posts_more : (j k place : ℕ) (x : I) (v : View I)
+      → posts_at j (then_desk k (after_post place x) v) ≡ posts_at j v + one_at j (number_of v.desk.row place)
+  posts_more j k place x v =
       omega (arith, sum_by-append (λ (i : ℕ). one_at j (number_of v.desk.row i)) v.desk.posts (place ∷ []))
 
   pub claims_more : (j k row place : ℕ) (x : I) (v : View I)

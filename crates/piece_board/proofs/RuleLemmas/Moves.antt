@@ -11,6 +11,7 @@ use Rattle.piece_board.specs.declared.view.Content.{Content}
 use Rattle.piece_board.specs.declared.view.View.{View}
 use Rattle.piece_board.specs.Entries.{entry_at, AreApart}
 use Rattle.piece_board.specs.Desks.{number_of}
+use Rattle.piece_board.specs.Trace.{HasTrace}
 use Rattle.piece_board.specs.Rule.{one_at, claims_at, posts_at, IsKnown, IsKeptEmpty, PlaceStands, ObeysRule}
 use Rattle.piece_board.proofs.RuleLemmas.Lists.{changed, changed_here, changed_else}
 use Rattle.piece_board.proofs.RuleLemmas.Places.{BoardState, after_step, stands_still}
@@ -50,6 +51,7 @@ pub record Moves {I O : Type 0} (meets : I → O → Type 0) (s : BoardState I O
       → entry_at k u.desk.claims ≡ Some x → (claimer ≡ i) × (n ≡ 2) × (last ≡ Some x)
   pub counts_else : (j : ℕ) → j ≢ k → (claims_at j w ≡ claims_at j v) × (posts_at j w ≡ posts_at j v)
   pub counts_here : claims_at k w + one_at 1 n + posts_at k v ≡ claims_at k v + one_at 1 (get_or s.words k 0) + posts_at k w
+  pub traced : HasTrace (set s.words k n) (set s.views seat w)
 
 module _ {I O : Type 0} (meets : I → O → Type 0) where
   -- a place in the seat's rows after the step was in its rows before
@@ -181,6 +183,7 @@ module _ {I O : Type 0} (meets : I → O → Type 0) where
       apart = λ i u at. ⊎_elim (λ t. subst (λ (z : View I). AreApart z.desk.posted × AreApart z.desk.claims) t.1 m.apart)
           (λ t. o.apart i u t.1) (at_set s.views seat i w u at);
       once = once_then;
+      traced = m.traced;
     }
 
   module _ (s : BoardState I O) (o : ObeysRule meets s) (k seat : ℕ) (v w : View I) (me : get_elem? s.views seat ≡ some v) where
@@ -222,8 +225,8 @@ module _ {I O : Type 0} (meets : I → O → Type 0) where
 
   -- a seat's counts change, and nothing else
   counts_alone : (s : BoardState I O) (o : ObeysRule meets s) (seat : ℕ) (v w : View I) → get_elem? s.views seat ≡ some v
-      → SameDesks v w → ObeysRule meets record { words = s.words; homes = s.homes; views = set s.views seat w }
-  counts_alone s o seat v w me same =
+      → SameDesks v w → HasTrace s.words (set s.views seat w) → ObeysRule meets record { words = s.words; homes = s.homes; views = set s.views seat w }
+  counts_alone s o seat v w me same traced =
       let then : BoardState I O = record { words = s.words; homes = s.homes; views = set s.views seat w } in
       let long : length (set s.views seat w) ≡ length s.views = length-set s.views seat w in
       let still : (k keeper : ℕ) → IsKeptEmpty s k keeper → IsKeptEmpty then k keeper = λ k keeper old u at away. ⊎_elim
@@ -262,11 +265,12 @@ module _ {I O : Type 0} (meets : I → O → Type 0) where
             let posts_same : posts_at k w ≡ posts_at k v =
             λ e. sum_by (λ (place : ℕ). one_at k (number_of (same.rows.first e) place)) (same.posts e) in
             omega (arith, o.once k lt, claims, posts, claims_same, posts_same);
+        traced = traced;
       }
 
   -- the same for a step that stores in its word the value that it found there
   pub word_stays : (s : BoardState I O) (o : ObeysRule meets s) (k seat : ℕ) (v w : View I) → get_elem? s.views seat ≡ some v
-      → SameDesks v w → ObeysRule meets record { words = set s.words k (get_or s.words k 0); homes = s.homes; views = set s.views seat w }
-  word_stays s o k seat v w me same =
+      → SameDesks v w → HasTrace s.words (set s.views seat w) → ObeysRule meets record { words = set s.words k (get_or s.words k 0); homes = s.homes; views = set s.views seat w }
+  word_stays s o k seat v w me same traced =
       subst (λ (words : List ℕ). ObeysRule meets record { words = words; homes = s.homes; views = set s.views seat w })
-      (sym (set-get_or s.words k 0)) (counts_alone s o seat v w me same)
+      (sym (set-get_or s.words k 0)) (counts_alone s o seat v w me same traced)

@@ -1,4 +1,5 @@
 -- The rule holds for a new board, and after a row is split off.
+use Rattle.std.specs.List.{AllByRecursion}
 use Rattle.std.proofs.Common.{◌≡◌, ◌≢◌, ◌⊎◌, ℕ, zero, suc, ◌+◌, ◌-◌, ◌*◌, ◌<◌, ◌≤◌, [], ◌∷◌, ◌++◌, length, replicate, get_or, set, cond, eqb, ltb, None, eq-eqb, ne_eqb, lt-ltb, le-ltb, length-append, length-set, sym, refl, ap, ◌∙◌, subst, inl, inr, ⊎_elim, arith}
 use Rattle.std.proofs.lemmas.List.{length-map, length-replicate, get_or-replicate}
 use Rattle.std.proofs.lemmas.List.Sums.{sum_by-append}
@@ -11,11 +12,13 @@ use Rattle.atomic_table.proofs.Lists.{at_set}
 use Rattle.piece_board.specs.declared.view.Content.TheVariants.{Nothing}
 use Rattle.piece_board.specs.declared.view.View.{View}
 use Rattle.piece_board.specs.Entries.{entry_at, AreApart}
+use Rattle.piece_board.specs.Trace.{IsTrueIn, AreInOrder}
 use Rattle.piece_board.specs.Rule.{one_at, claims_at, posts_at, fresh_view, first_view, first_row, without_first_row, IsKnown, IsKeptEmpty, ObeysRule}
 use Rattle.piece_board.proofs.RuleLemmas.Entries.{none_is_not}
 use Rattle.piece_board.proofs.RuleLemmas.Lists.{old_or_last, home_of_replicate}
 use Rattle.piece_board.proofs.RuleLemmas.Places.{BoardState, stands_free}
 use Rattle.piece_board.proofs.RuleLemmas.Counts.{sum_set}
+use Rattle.piece_board.proofs.RuleLemmas.Traces.{trace_splits}
 
 only : {I : Type 0} (u v : View I) (i : ℕ) → get_elem? (v ∷ []) i ≡ some u → (0 ≡ i) × (v ≡ u)
 only u v zero at = (refl, some-injective v u at)
@@ -53,6 +56,14 @@ module _ {I O : Type 0} (meets : I → O → Type 0) where
         once = λ k lt.
             let word : one_at 1 (get_or (replicate n 0) k 0) ≡ 0 = ap (one_at 1) (zeros n k) in
             omega (arith, word);
+        traced = record {
+          trace = [];
+          reached = λ k lt. zeros n k;
+          events = λ i u at. ap (λ (v : View I). v.events) (only u (first_view rows) i at).1;
+          seated = λ i past. refl;
+          misses = λ i u at. subst (λ (v : View I). AllByRecursion (IsTrueIn i []) v.misses × AreInOrder v.misses)
+              (only u (first_view rows) i at).1 (tt, tt);
+        };
       }
 
   -- an initial seat splits off its first row
@@ -146,4 +157,5 @@ module _ {I O : Type 0} (meets : I → O → Type 0) where
               sum_by-append (claims_at k) (set s.views seat left) (right ∷ []),
               sum_by-append (posts_at k) (set s.views seat left) (right ∷ []),
             );
+        traced = trace_splits s.words s.views o.traced seat v me left right refl refl refl refl refl;
       }

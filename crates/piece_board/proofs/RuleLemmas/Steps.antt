@@ -3,6 +3,7 @@
 use Rattle.std.proofs.Common.{◌≡◌, ◌≢◌, ℕ, ◌+◌, ◌-◌, ◌*◌, ◌<◌, ◌≤◌, List, ◌∷◌, length, get_or, set, eqb, Option, None, Some, get_or-set_same, sym, refl, ap, ◌∙◌, subst, arith}
 use mathlib.Core.Option.{Option as Home, some, none}
 use lib.ListN.{get_elem?}
+use lib.Seq.{set-get_or}
 use prog.Atomic.{either}
 use Rattle.atomic_table.specs.Table.{step, Act, keeps, takes, gives, Valid, carried_after, stepped, Allows}
 use Rattle.atomic_table.proofs.Lists.{set_here, exchanged}
@@ -11,12 +12,16 @@ use Rattle.piece_board.specs.declared.view.Content.TheVariants.{Nothing, Input, 
 use Rattle.piece_board.specs.declared.view.View.{View}
 use Rattle.piece_board.specs.Entries.{entry_at, without}
 use Rattle.piece_board.specs.Desks.{number_of, posted_at, after_post, after_claim, after_refusal, after_finish, after_collect, after_empty_collect}
+use Rattle.piece_board.specs.declared.view.Miss.{Miss}
+use Rattle.piece_board.specs.Trace.{HasTrace}
+use Rattle.piece_board.specs.Moments.{IsMissAt}
 use Rattle.piece_board.specs.Rule.{one_at, IsKnown, IsKeptEmpty, PlaceStands, ObeysRule}
-use Rattle.piece_board.specs.Steps.{with_in_hand, then_desk, then_desk_with, TakesInHand, PutsBack, Posts, Claims, Strays, Finishes, Collects}
+use Rattle.piece_board.specs.Steps.{with_in_hand, then_desk, then_desk_with, with_miss, TakesInHand, PutsBack, Posts, Claims, Strays, Finishes, Collects}
 use Rattle.piece_board.proofs.RuleLemmas.Entries.{none_is_not, entry_first, entry_later, entry_before, entry_last, entry_gone, entry_stays, apart_with_last, apart_without}
 use Rattle.piece_board.proofs.RuleLemmas.Lists.{inside}
 use Rattle.piece_board.proofs.RuleLemmas.Places.{BoardState, after_step, stands_free, stands_open, stands_claimed, stands_full, kept_in_hand, known_still, known_last}
 use Rattle.piece_board.proofs.RuleLemmas.Counts.{one_here, none_else, posts_more, claims_more}
+use Rattle.piece_board.proofs.RuleLemmas.Traces.{trace_looks, trace_misses, trace_grows, miss_of, all_before}
 use Rattle.piece_board.proofs.RuleLemmas.Moves.{SameRows, SameDesks, Moves, rule_kept, owned_still, claims_still, claims_mine, owner_is_me, word_stays}
 
 -- place `k` of the board is place `place` of the seat's own row
@@ -53,8 +58,8 @@ same_place : (k row place row' place' : ℕ) → place < 56 → place' < 56 → 
     → place ≡ place'
 same_place k row place row' place' below below' is is' = omega (arith, below, below', is, is')
 
-refused : {I : Type 0} (v : View I) (row place : ℕ) → v.in_hand ≡ 0 → SameDesks v (then_desk (after_refusal row place) v)
-refused v row place empty = record {
+refused : {I : Type 0} (v : View I) (miss : Miss) (row place : ℕ) → v.in_hand ≡ 0 → SameDesks v (with_miss miss (after_refusal row place) v)
+refused v miss row place empty = record {
   rows = record { first = refl; end = refl };
   hand = sym empty;
   posted = refl;
@@ -63,8 +68,8 @@ refused v row place empty = record {
   posts = refl;
 }
 
-found_empty : {I : Type 0} (v : View I) → v.in_hand ≡ 0 → SameDesks v (then_desk after_empty_collect v)
-found_empty v empty = record {
+found_empty : {I : Type 0} (v : View I) (miss : Miss) → v.in_hand ≡ 0 → SameDesks v (with_miss miss after_empty_collect v)
+found_empty v miss empty = record {
   rows = record { first = refl; end = refl };
   hand = sym empty;
   posted = refl;
@@ -91,6 +96,24 @@ module _ {I O : Type 0} (meets : I → O → Type 0) where
         (ap (λ (i : ℕ). entry_at i v.desk.posted) (in_row v k place own) ∙ free)
         (o.owned seat v k me (from_row v k place own) (to_row v k place own)).1
 
+    -- a look at the word of the place, which misses
+    missed : (n : ℕ) → length s.homes ≡ n → IsMissAt meets n v k (miss_of s.words s.views o.traced seat v me k)
+    missed n wide = record {
+      word = refl;
+      events = refl;
+      at = record {
+        board = s;
+        obeys = o;
+        wide = o.as_many ∙ wide;
+        seat = seat;
+        seated = me;
+        long = refl;
+        own = o.traced.events seat v me;
+        later = all_before s.words s.views o.traced seat v me;
+      };
+      found = refl;
+    }
+
     look_moves : (b : ℕ) (h : Home (Content I O)) → k < length s.homes → ((j : ℕ) → j ≢ k → v.in_hand ≢ j + 1)
         → PlaceStands meets (after_step s k (get_or s.words k 0) seat (with_in_hand b v) h) k (o.last k) (o.owner k) (o.claimer k)
         → Moves meets s o k seat v (with_in_hand b v) (get_or s.words k 0) h (o.last k) (o.claimer k)
@@ -108,6 +131,8 @@ module _ {I O : Type 0} (meets : I → O → Type 0) where
       claimed = claims_still meets s o k seat v (with_in_hand b v) me refl;
       counts_else = λ j ne. (refl, refl);
       counts_here = refl;
+      traced = subst (λ (words : List ℕ). HasTrace words (set s.views seat (with_in_hand b v))) (sym (set-get_or s.words k 0))
+          (trace_looks s.words s.views o.traced seat v me (with_in_hand b v) refl refl);
     }
 
   -- the owner of a free place takes its slot in hand
@@ -200,7 +225,7 @@ module _ {I O : Type 0} (meets : I → O → Type 0) where
       let word = free_word s o k seat v me place own free in
       let there : k < length s.homes = omega (arith, wide, lt) in
       let inside_words : k < length s.words = omega (arith, there, o.as_many) in
-      let w : View I = then_desk (after_post place x) v in
+      let w : View I = then_desk k (after_post place x) v in
       let rows : SameRows v w = record { first = refl; end = refl } in
       let apart = o.apart seat v me in (
         w,
@@ -226,32 +251,33 @@ module _ {I O : Type 0} (meets : I → O → Type 0) where
           claimed = λ i u y at found.
               let t = claims_still meets s o k seat v w me refl i u y at found in absurd (omega (arith, t.1, word));
           counts_else = λ j ne.
-              let more = posts_more j place x v in
+              let more = posts_more j k place x v in
               let other = none_else j (number_of v.desk.row place) (λ is. ne (sym is ∙ sym own.number)) in
               (refl, omega (arith, more, other));
           counts_here =
-              let more = posts_more k place x v in
+              let more = posts_more k k place x v in
               let this = one_here k (number_of v.desk.row place) (sym own.number) in
               let was_free : one_at 1 (get_or s.words k 0) ≡ 0 = ap (one_at 1) word in
               omega (arith, more, this, was_free);
+          traced = trace_grows s.words s.views o.traced seat v me k 1 w inside_words refl refl (omega (arith, word));
         }),
         λ place' x' is held.
             let there_too : place' ≡ place = omega (arith, is, own.number) in
             let x_too : x ≡ x' = same_input k xs _ x x' held in
-            λ e. (then_desk (after_post (sym there_too e) (x_too e)) v, xs),
+            λ e. (then_desk k (after_post (sym there_too e) (x_too e)) v, xs),
       )
 
   -- a seat claims an open place, or finds it not open
   pub claims : (n seat : ℕ) (v : View I) (xs : List (ℕ × Content I O)) (k row place : ℕ) → k < n → v.in_hand ≡ 0
       → place < 56 → k ≡ number_of row place
-      → Allows (ObeysRule meets) n seat (v, xs) k (λ y. either (eqb y 1) 2 y) (Claims (step n k 1 2 none) (v, xs))
+      → Allows (ObeysRule meets) n seat (v, xs) k (λ y. either (eqb y 1) 2 y) (Claims meets (step n k 1 2 none) (v, xs))
   claims n seat v xs k row place lt empty below number s o wide me fits =
       let there : k < length s.homes = omega (arith, wide, lt) in
       let inside_words : k < length s.words = omega (arith, there, o.as_many) in
       let apart = o.apart seat v me in
       exchanged (get_or s.words k 0) 1 2 (λ y. (w : View I) × (a : Act (Content I O)) × Valid s.homes xs a
       × ObeysRule meets (stepped s k y seat xs w a)
-      × Claims (step n k 1 2 none) (v, xs) (get_or s.words k 0) (w, carried_after xs a))
+      × Claims meets (step n k 1 2 none) (v, xs) (get_or s.words k 0) (w, carried_after xs a))
       (λ one.
       let opened = (o.places k there).opened one in
       let x = opened.0 in
@@ -295,6 +321,7 @@ module _ {I O : Type 0} (meets : I → O → Type 0) where
               let this = one_here k (number_of row place) (sym number) in
               let was_open : one_at 1 (get_or s.words k 0) ≡ 1 = ap (one_at 1) one in
               omega (arith, more, this, was_open);
+          traced = trace_grows s.words s.views o.traced seat v me k 2 w inside_words refl refl (omega (arith, one));
         }),
         λ row' place' below' number'.
             let row_is = same_row k row place row' place' below below' number number' in
@@ -303,36 +330,41 @@ module _ {I O : Type 0} (meets : I → O → Type 0) where
               λ other. absurd (other one),
             ),
       ))
-      (λ other. (
-        then_desk (after_refusal row place) v,
+      (λ other.
+      let miss = miss_of s.words s.views o.traced seat v me k in
+      let w : View I = with_miss miss (after_refusal row place) v in (
+        w,
         keeps,
         tt,
-        word_stays meets s o k seat v _ me (refused v row place empty),
+        word_stays meets s o k seat v w me (refused v miss row place empty) (trace_misses s.words s.views o.traced seat v me k w inside_words refl refl),
         λ row' place' below' number'.
             let row_is = same_row k row place row' place' below below' number number' in
             let place_is = same_place k row place row' place' below below' number number' in (
               (λ one. absurd (other one)),
-              λ _ e. (then_desk (after_refusal (row_is e) (place_is e)) v, xs),
+              λ _. (miss, missed s o k seat v me n wide, refl, λ e. (with_miss miss (after_refusal (row_is e) (place_is e)) v, xs)),
             ),
       ))
 
   -- a claim outside the board finds a word below 4, and changes none
   pub strays : (n seat : ℕ) (v : View I) (xs : List (ℕ × Content I O)) (row place : ℕ) → 0 < n → v.in_hand ≡ 0
       → Allows (ObeysRule meets) n seat (v, xs) 0 (λ y. either (eqb y (4 + row)) place y)
-      (Strays (step n 0 (4 + row) place none) (v, xs))
+      (Strays meets (step n 0 (4 + row) place none) (v, xs))
   strays n seat v xs row place lt empty s o wide me fits =
       exchanged (get_or s.words 0 0) (4 + row) place (λ y. (w : View I) × (a : Act (Content I O)) × Valid s.homes xs a
       × ObeysRule meets (stepped s 0 y seat xs w a)
-      × Strays (step n 0 (4 + row) place none) (v, xs) (get_or s.words 0 0) (w, carried_after xs a))
+      × Strays meets (step n 0 (4 + row) place none) (v, xs) (get_or s.words 0 0) (w, carried_after xs a))
       (λ hit. let few = (o.places 0 (omega (arith, wide, lt))).few in absurd (omega (arith, few, hit)))
-      (λ other. (
-        then_desk (after_refusal row place) v,
+      (λ other.
+      let miss = miss_of s.words s.views o.traced seat v me 0 in
+      let w : View I = with_miss miss (after_refusal row place) v in (
+        w,
         keeps,
         tt,
-        word_stays meets s o 0 seat v _ me (refused v row place empty),
+        word_stays meets s o 0 seat v w me (refused v miss row place empty)
+            (trace_misses s.words s.views o.traced seat v me 0 w (omega (arith, wide, lt, o.as_many)) refl refl),
         λ row' place' first second outside.
             let row_is : row ≡ row' = omega (arith, first) in
-            λ e. (then_desk (after_refusal (row_is e) (second e)) v, xs),
+            (miss, missed s o 0 seat v me n wide, refl, λ e. (with_miss miss (after_refusal (row_is e) (second e)) v, xs)),
       ))
 
   -- the claimer of a place fills it
@@ -344,7 +376,7 @@ module _ {I O : Type 0} (meets : I → O → Type 0) where
       let was = o.claims seat v k x me mine in
       let there : k < length s.homes = omega (arith, wide, lt) in
       let inside_words : k < length s.words = omega (arith, there, o.as_many) in
-      let w : View I = then_desk (after_finish row place) v in
+      let w : View I = then_desk k (after_finish row place) v in
       let rows : SameRows v w = record { first = refl; end = refl } in
       let apart = o.apart seat v me in
       let gone : entry_at k w.desk.claims ≡ None =
@@ -373,11 +405,12 @@ module _ {I O : Type 0} (meets : I → O → Type 0) where
           counts_else = λ j ne. (refl, refl);
           counts_here =
               let was_claimed : one_at 1 (get_or s.words k 0) ≡ 0 = ap (one_at 1) was.1 in omega (arith, was_claimed);
+          traced = trace_grows s.words s.views o.traced seat v me k 3 w inside_words refl refl (omega (arith, was.1));
         }),
         λ row' place' below' number'.
             let row_is = same_row k row place row' place' below below' number number' in
             let place_is = same_place k row place row' place' below below' number number' in
-            λ e. (then_desk (after_finish (row_is e) (place_is e)) v, xs),
+            λ e. (then_desk k (after_finish (row_is e) (place_is e)) v, xs),
       )
 
   -- the owner of a full place takes its result, or finds the place not full
@@ -423,6 +456,7 @@ module _ {I O : Type 0} (meets : I → O → Type 0) where
           counts_else = λ j ne. (refl, refl);
           counts_here =
               let was_full : one_at 1 (get_or s.words k 0) ≡ 0 = ap (one_at 1) three in omega (arith, was_full);
+          traced = trace_grows s.words s.views o.traced seat v me k 0 w inside_words refl refl (omega (arith, three));
         }),
         λ place' number'.
             let place_is : place ≡ place' = omega (arith, own.number, number') in
@@ -440,10 +474,12 @@ module _ {I O : Type 0} (meets : I → O → Type 0) where
               λ other. absurd (other three),
             ),
       ))
-      (λ other. (
-        then_desk after_empty_collect v,
+      (λ other.
+      let miss = miss_of s.words s.views o.traced seat v me k in
+      let w : View I = with_miss miss after_empty_collect v in (
+        w,
         keeps,
         tt,
-        word_stays meets s o k seat v _ me (found_empty v empty),
-        λ place' number'. ((λ three. absurd (other three)), λ _. refl),
+        word_stays meets s o k seat v w me (found_empty v miss empty) (trace_misses s.words s.views o.traced seat v me k w inside_words refl refl),
+        λ place' number'. ((λ three. absurd (other three)), λ _. (miss, missed s o k seat v me n wide, refl, refl)),
       ))

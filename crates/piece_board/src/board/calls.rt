@@ -1,11 +1,13 @@
 //! The four operations on a board: post, claim, finish and collect.
-ghost use Rattle.std.specs.Prelude.{◌≡◌, ◌<◌, ◌≤◌, None, Some};
+ghost use Rattle.std.specs.Prelude.{◌≡◌, ◌≢◌, ◌<◌, ◌≤◌, None, Some};
 ghost use Rattle.std.specs.Prelude.{IfNone, IfSome, IsSomeAnd, MatchBool};
 ghost use Rattle.piece_board.specs.Desks.{number_of, posted_at, after_post, after_claim};
 ghost use Rattle.piece_board.specs.Desks.{after_refusal, after_finish, after_collect};
 ghost use Rattle.piece_board.specs.Desks.{after_empty_collect};
-ghost use Rattle.piece_board.specs.Boards.{workers_of, desk_view, spot_of, claimed_by};
-ghost use Rattle.piece_board.specs.Boards.{IsDeskOf, IsClaimOf};
+ghost use Rattle.piece_board.specs.declared.view.Miss.{Miss};
+ghost use Rattle.piece_board.specs.Steps.{then_desk, with_miss};
+ghost use Rattle.piece_board.specs.Boards.{workers_of, view, desk_view, spot_of, claimed_by};
+ghost use Rattle.piece_board.specs.Boards.{IsDeskOf, IsClaimOf, IsMissOf};
 
 use crate::board::{Board, Claim, Desk};
 use crate::rule::{Claimed, Collected, Finished, Posted, PutBack, Strayed, Taken};
@@ -50,12 +52,13 @@ impl<W: Work> Board<W> {
         requires desk { IsDeskOf self.now desk.old }
         requires outside { row < workers_of self.now → 56 ≤ place }
         ensures desk { IsDeskOf self.now desk.new }
-        ensures refused { desk_view desk.new ≡ after_refusal row place (desk_view desk.old) }
+        ensures refused { (miss : Miss) × IsMissOf self.now desk.old 0 miss
+            × (view desk.new ≡ with_miss miss (after_refusal row place) (view desk.old)) }
     {
         let (row, place) = (u64::from(row), u64::from(place));
         self.table
             .shared
-            .compare_exchange::<Strayed>(&mut desk.seat, 0, 4 + row, place);
+            .compare_exchange::<Strayed<W>>(&mut desk.seat, 0, 4 + row, place);
     }
 
     /// Posts a piece at a free place of the desk's own row, which becomes open.
@@ -67,6 +70,8 @@ impl<W: Work> Board<W> {
         requires free { posted_at i (desk_view desk.old) ≡ None }
         ensures desk { IsDeskOf self.now desk.new }
         ensures posted { desk_view desk.new ≡ after_post i input (desk_view desk.old) }
+        ensures event { view desk.new
+            ≡ then_desk (number_of (desk_view desk.old).row i) (after_post i input) (view desk.old) }
         ensures there { posted_at i (desk_view desk.new) ≡ Some input }
     {
         let shared = &self.table.shared;
@@ -84,10 +89,17 @@ impl<W: Work> Board<W> {
         ensures desk { IsDeskOf self.now desk.new }
         ensures some { IfSome result (λ r.
             desk_view desk.new ≡ after_claim row i r.1 (desk_view desk.old)) }
+        ensures event { IfSome result (λ r.
+            view desk.new ≡ then_desk (number_of row i) (after_claim row i r.1) (view desk.old)) }
         ensures claim { IfSome result (λ r. IsClaimOf self.now r.0 × (spot_of r.0 ≡ (row, i))
             × (claimed_by r.0 desk.new ≡ Some r.1)) }
         ensures none { IfNone result
             (desk_view desk.new ≡ after_refusal row i (desk_view desk.old)) }
+        ensures missed { IfNone result ((miss : Miss)
+            × ((row < workers_of self.now → i < 56 → (miss.found ≢ 1)
+            × IsMissOf self.now desk.old (number_of row i) miss)
+            × ((row < workers_of self.now → 56 ≤ i) → IsMissOf self.now desk.old 0 miss))
+            × (view desk.new ≡ with_miss miss (after_refusal row i) (view desk.old))) }
     {
         if !self.has(row, i) {
             self.refuse(desk, row, i);
@@ -95,7 +107,7 @@ impl<W: Work> Board<W> {
         }
         let shared = &self.table.shared;
         let number = number_of(row, i);
-        if shared.compare_exchange::<Claimed>(&mut desk.seat, number, 1, 2) != 1 {
+        if shared.compare_exchange::<Claimed<W>>(&mut desk.seat, number, 1, 2) != 1 {
             return None;
         }
         let content = shared.exchange(&mut desk.seat, number, Content::Nothing);
@@ -121,6 +133,8 @@ impl<W: Work> Board<W> {
         ensures desk { IsDeskOf self.now desk.new }
         ensures finished { desk_view desk.new
             ≡ after_finish (spot_of claim).0 (spot_of claim).1 (desk_view desk.old) }
+        ensures event { view desk.new ≡ then_desk (number_of (spot_of claim).0 (spot_of claim).1)
+            (after_finish (spot_of claim).0 (spot_of claim).1) (view desk.old) }
     {
         let shared = &self.table.shared;
         let number = number_of(claim.row, claim.place);
@@ -139,11 +153,16 @@ impl<W: Work> Board<W> {
         ensures desk { IsDeskOf self.now desk.new }
         ensures some { IfSome result (λ _.
             desk_view desk.new ≡ after_collect i (desk_view desk.old)) }
+        ensures event { IfSome result (λ _. view desk.new
+            ≡ then_desk (number_of (desk_view desk.old).row i) (after_collect i) (view desk.old)) }
         ensures meets { IfSome result (λ out.
             IsSomeAnd (posted_at i (desk_view desk.old)) (λ x. W.meets x out)) }
         ensures free { IfSome result (λ _. posted_at i (desk_view desk.new) ≡ None) }
         ensures none { IfNone result
             (desk_view desk.new ≡ after_empty_collect (desk_view desk.old)) }
+        ensures missed { IfNone result ((miss : Miss) × (miss.found ≢ 3)
+            × IsMissOf self.now desk.old (number_of (desk_view desk.old).row i) miss
+            × (view desk.new ≡ with_miss miss after_empty_collect (view desk.old))) }
     {
         let shared = &self.table.shared;
         let number = number_of(desk.row, i);

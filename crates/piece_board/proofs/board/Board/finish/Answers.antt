@@ -3,7 +3,7 @@ use Rattle.piece_board.specs.declared.view.Content.TheVariants.{Nothing, Output}
 use Rattle.piece_board.specs.Entries.{entry_at}
 use Rattle.piece_board.specs.Desks.{after_finish}
 use Rattle.piece_board.specs.Boards.{claimed_by}
-use Rattle.piece_board.specs.Steps.{with_in_hand, then_desk}
+use Rattle.piece_board.specs.Steps.{SeatAt, with_in_hand, then_desk}
 use Rattle.piece_board.proofs.RuleLemmas.Steps.{takes_claim}
 use Rattle.piece_board.proofs.CallLemmas.{within, written, what_is_there, finishes_at, finish_leaves, is_desk, desk_is}
 use Rattle.piece_board.proofs.board.Board.finish.Goals as goal
@@ -40,7 +40,7 @@ pub invariant_of-desk : goal.invariant_of-desk
 invariant_of-desk g c =
     let desk = c.args.desk.now in
     let v = desk.seat.me.0 in
-    let is = is_desk c.store.new.seat.me (then_desk (after_finish c.args.claim.row c.args.claim.place) v) _
+    let is = is_desk c.store.new.seat.me (then_desk c.number_of-number.result (after_finish c.args.claim.row c.args.claim.place) v) _
     (finish_leaves c.args.self.now.table.shared.table_id.slots _ _ desk.seat.me c.load.new.seat.me c.exchange.new.seat.me _
     desk.idle.0 c.args.claim.row c.args.out (omega (arith, c.args.claim.within)) c.number_of-number.ensures c.load.ensures.2
     c.exchange.ensures.3 c.store.ensures.2) refl desk.own.0 desk.own.1 in
@@ -49,7 +49,16 @@ invariant_of-desk g c =
 pub returns-clause-finished : goal.returns-clause-finished
 returns-clause-finished g c =
     let desk = c.args.desk.now in
-    desk_is c.store.new.seat.me (then_desk (after_finish c.args.claim.row c.args.claim.place) desk.seat.me.0)
+    desk_is c.store.new.seat.me (then_desk c.number_of-number.result (after_finish c.args.claim.row c.args.claim.place) desk.seat.me.0)
     (finish_leaves c.args.self.now.table.shared.table_id.slots _ _ desk.seat.me c.load.new.seat.me c.exchange.new.seat.me _
     desk.idle.0 c.args.claim.row c.args.out (omega (arith, c.args.claim.within)) c.number_of-number.ensures c.load.ensures.2
     c.exchange.ensures.3 c.store.ensures.2)
+
+pub returns-clause-event : goal.returns-clause-event
+returns-clause-event g c =
+    let desk = c.args.desk.now in
+    ap (λ (m : SeatAt _ _). m.0)
+    (finish_leaves c.args.self.now.table.shared.table_id.slots _ _ desk.seat.me c.load.new.seat.me c.exchange.new.seat.me _
+    desk.idle.0 c.args.claim.row c.args.out (omega (arith, c.args.claim.within)) c.number_of-number.ensures c.load.ensures.2
+    c.exchange.ensures.3 c.store.ensures.2)
+    ∙ (λ e. then_desk (c.number_of-number.ensures e) (after_finish c.args.claim.row c.args.claim.place) desk.seat.me.0)

@@ -1,7 +1,7 @@
 use Rattle.std.proofs.Common.{rules, refl, ◌+◌, ◌∙◌, ap}
 use Rattle.piece_board.specs.declared.view.Content.TheVariants.{Nothing, Input}
 use Rattle.piece_board.specs.Desks.{posted_at, after_post}
-use Rattle.piece_board.specs.Steps.{with_in_hand, then_desk}
+use Rattle.piece_board.specs.Steps.{SeatAt, with_in_hand, then_desk}
 use Rattle.piece_board.proofs.RuleLemmas.Entries.{entry_last}
 use Rattle.piece_board.proofs.RuleLemmas.Steps.{takes_own}
 use Rattle.piece_board.proofs.CallLemmas.{within, own_place, written, posts_at, post_leaves, is_desk, desk_is}
@@ -38,7 +38,7 @@ invariant_of-desk g c =
     let desk = c.args.desk.now in
     let v = desk.seat.me.0 in
     let own = own_place v _ _ _ desk.own.0 desk.own.1 c.requires.place c.number_of-number.ensures in
-    let is = is_desk c.store.new.seat.me (then_desk (after_post c.args.i c.args.input) v) _
+    let is = is_desk c.store.new.seat.me (then_desk c.number_of-number.result (after_post c.args.i c.args.input) v) _
     (post_leaves c.args.self.now.table.shared.table_id.slots _ _ desk.seat.me c.load.new.seat.me c.exchange.new.seat.me _
     desk.idle.0 c.args.input own c.load.ensures.2 c.exchange.ensures.3 c.store.ensures.2) refl desk.own.0 desk.own.1 in
     record { idle = is.0; own = is.1 }
@@ -48,7 +48,7 @@ returns-clause-posted g c =
     let desk = c.args.desk.now in
     let v = desk.seat.me.0 in
     let own = own_place v _ _ _ desk.own.0 desk.own.1 c.requires.place c.number_of-number.ensures in
-    desk_is c.store.new.seat.me (then_desk (after_post c.args.i c.args.input) v)
+    desk_is c.store.new.seat.me (then_desk c.number_of-number.result (after_post c.args.i c.args.input) v)
     (post_leaves c.args.self.now.table.shared.table_id.slots _ _ desk.seat.me c.load.new.seat.me c.exchange.new.seat.me _
     desk.idle.0 c.args.input own c.load.ensures.2 c.exchange.ensures.3 c.store.ensures.2)
 
@@ -57,7 +57,17 @@ returns-clause-there g c =
     let desk = c.args.desk.now in
     let v = desk.seat.me.0 in
     let own = own_place v _ _ _ desk.own.0 desk.own.1 c.requires.place c.number_of-number.ensures in
-    ap (λ d. posted_at c.args.i d) (desk_is c.store.new.seat.me (then_desk (after_post c.args.i c.args.input) v)
+    ap (λ d. posted_at c.args.i d) (desk_is c.store.new.seat.me (then_desk c.number_of-number.result (after_post c.args.i c.args.input) v)
     (post_leaves c.args.self.now.table.shared.table_id.slots _ _ desk.seat.me c.load.new.seat.me c.exchange.new.seat.me _
     desk.idle.0 c.args.input own c.load.ensures.2 c.exchange.ensures.3 c.store.ensures.2))
     ∙ entry_last c.args.i c.args.input v.desk.posted c.requires.free
+
+pub returns-clause-event : goal.returns-clause-event
+returns-clause-event g c =
+    let desk = c.args.desk.now in
+    let v = desk.seat.me.0 in
+    let own = own_place v _ _ _ desk.own.0 desk.own.1 c.requires.place c.number_of-number.ensures in
+    ap (λ (m : SeatAt _ _). m.0)
+    (post_leaves c.args.self.now.table.shared.table_id.slots _ _ desk.seat.me c.load.new.seat.me c.exchange.new.seat.me _
+    desk.idle.0 c.args.input own c.load.ensures.2 c.exchange.ensures.3 c.store.ensures.2)
+    ∙ (λ e. then_desk (own.number e) (after_post c.args.i c.args.input) v)

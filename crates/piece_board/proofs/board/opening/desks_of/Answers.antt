@@ -1,6 +1,6 @@
-use Rattle.std.proofs.Common.{arith, ◌+◌, ◌∙◌, sym, subst, List}
+use Rattle.std.proofs.Common.{arith, ap, ◌+◌, ◌∙◌, sym, subst, List}
 use Rattle.piece_board.specs.Boards.{AreDesksUpTo}
-use Rattle.piece_board.proofs.CallLemmas.{desk_is}
+use Rattle.piece_board.specs.Steps.{SeatAt}
 use Rattle.piece_board.proofs.OpeningLemmas.{one_desk_more, left_then, own_then, can_cut}
 use Rattle.piece_board.proofs.board.opening.desks_of.Goals as goal
 
@@ -21,5 +21,5 @@ loop-row-preserved g c =
       rows = omega (arith, lt);
       desks = subst (λ (l : List _). AreDesksUpTo (c.loop-row.row + 1) c.args.board.now l) (sym c.in_ok-push.ensures.items)
           (one_desk_more _ _ _ _ i.desks (record { seated = c.split_seat-own.ensures.3 ∙ i.table; below = lt })
-          (desk_is _ _ own));
+          (ap (λ (m : SeatAt _ _). m.0) own));
     }

@@ -1,0 +1,5 @@
+pub mod Entries
+pub mod Orders
+pub mod Cuts
+pub mod Closings
+pub mod Occurrences

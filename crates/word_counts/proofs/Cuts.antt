@@ -1,7 +1,7 @@
 -- The words of a text are those of its parts, one after another, where parts end at line ends.
 use Rattle.std.proofs.Common.{◌≡◌, ℕ, zero, suc, ◌+◌, ◌-◌, ◌<◌, ◌≤◌, Bool, true, false, List, [], ◌∷◌, ◌++◌, take, drop, length, get_or, sym, refl, ap, ◌∙◌, subst, inl, inr, append_assoc, append-nil, arith}
 use Rattle.std.specs.Prelude.{if◌then◌else◌}
-use Rattle.std.specs.List.{between}
+use Rattle.std.specs.List.{between, AllByRecursion}
 use Rattle.std.proofs.lemmas.List.{drop-take, drop_more}
 use Rattle.std.proofs.lemmas.List.Edits.{between_none, between_more}
 use Rattle.word_counts.specs.Words.{is_white_space, ended, words_behind, words_of}
@@ -22,6 +22,24 @@ at_space run b text is = ap (λ (s : Bool). if s then ended run ++ words_behind 
 
 pub at_letter : (run : List ℕ) (b : ℕ) (text : List ℕ) → is_white_space b ≡ false → words_behind run (b ∷ text) ≡ words_behind (run ++ b ∷ []) text
 at_letter run b text is = ap (λ (s : Bool). if s then ended run ++ words_behind [] text else words_behind (run ++ b ∷ []) text) is
+
+-- white space parts the words
+pub parted : (run front : List ℕ) (byte : ℕ) (rest : List ℕ) → is_white_space byte ≡ true → words_behind run (front ++ byte ∷ rest) ≡ words_behind run front ++ words_of rest
+parted run [] byte rest space = at_space run byte rest space
+parted run (b ∷ front) byte rest space = step (is_white_space b) refl (λ (r : List ℕ). parted r front byte rest space)
+  where
+    step : (s : Bool) → is_white_space b ≡ s → ((r : List ℕ) → words_behind r (front ++ byte ∷ rest) ≡ words_behind r front ++ words_of rest)
+        → words_behind run (b ∷ (front ++ byte ∷ rest)) ≡ words_behind run (b ∷ front) ++ words_of rest
+    step true here more =
+        at_space run b (front ++ byte ∷ rest) here ∙ (ap (λ l. ended run ++ l) (more []) ∙ (sym (append_assoc (ended run) (words_of front) (words_of rest))
+        ∙ ap (λ l. l ++ words_of rest) (sym (at_space run b front here))))
+    step false here more =
+        at_letter run b (front ++ byte ∷ rest) here ∙ (more (run ++ b ∷ []) ∙ ap (λ l. l ++ words_of rest) (sym (at_letter run b front here)))
+
+-- bytes without white space belong to one word
+pub one_word : (run bytes : List ℕ) → AllByRecursion (λ b. is_white_space b ≡ false) bytes → words_behind run bytes ≡ ended (run ++ bytes)
+one_word run [] all = ap ended (sym (append-nil run))
+one_word run (b ∷ bytes) all = at_letter run b bytes all.0 ∙ (one_word (run ++ b ∷ []) bytes all.1 ∙ ap ended (append_assoc run (b ∷ []) bytes))
 
 -- behind a line feed the words begin anew
 behind_line_feed : (run text : List ℕ) (n : ℕ) → n < length text → get_or text n 0 ≡ 10 → words_behind run text ≡ words_behind run (take (suc n) text) ++ words_of (drop (suc n) text)

@@ -1,0 +1,8 @@
+-- What the program promises, with what it takes from the crates below. `Code` is what only the code cites.
+pub use Rattle.bt_io.specs.Bytes
+pub use Rattle.bt_io.specs.Causes
+pub use Rattle.program_io.specs.Reading
+pub mod Words
+pub mod Lines
+pub mod Outcomes
+pub mod Code

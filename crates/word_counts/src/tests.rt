@@ -1,6 +1,6 @@
 //! Texts whose words threads count.
 
-use crate::count_in_threads;
+use crate::{WordCounts, count_in_threads};
 use std::test::*;
 
 #[test]
@@ -11,6 +11,16 @@ fn the_counts_are_those_of_one_thread(rt: HostRuntime) -> Result<(), Fail> {
         let counts = count_in_threads(&rt, rt.alloc(), text, threads)?;
         assert!(rt; counts.text(rt.alloc())?.as_slice() == lines.as_slice());
     }
+    Ok(())
+}
+
+#[test]
+fn a_word_is_counted_once_more(rt: HostRuntime) -> Result<(), Fail> {
+    let mut counts = WordCounts::new(rt.alloc());
+    assert!(rt; counts.add(Vec::from_slice(rt.alloc(), b"gull")?)? == 1);
+    assert!(rt; counts.add(Vec::from_slice(rt.alloc(), b"ferry")?)? == 1);
+    assert!(rt; counts.add(Vec::from_slice(rt.alloc(), b"gull")?)? == 2);
+    assert!(rt; counts.text(rt.alloc())?.as_slice() == b"ferry 1\ngull 2\n".as_slice());
     Ok(())
 }
 

@@ -1,0 +1,3 @@
+mod Ranges
+pub mod Pairing
+mod Placing

@@ -1,0 +1,4 @@
+pub mod Batches
+pub mod Queues
+pub mod Sets
+pub mod Stacks

@@ -5,7 +5,6 @@ use Rattle.std.specs.Prelude.{zip, IsPermutation}
 use Rattle.std.specs.List.{swap}
 use Rattle.std.proofs.Math.ListN.{set}
 use Rattle.std.proofs.lemmas.List.{map-set, length-map}
-use Rattle.std.proofs.lemmas.List.Edits.{length-swap}
 use Rattle.std.proofs.lemmas.List.Sorted.{IsPermutation-refl, IsPermutation-swap, IsPermutation-trans, IsPermutation-keeps, IsPermutation-map}
 use Rattle.shared_calls.specs.Serial.{SerialObject, after_all, replies_to_all, IsServedInSomeOrder}
 

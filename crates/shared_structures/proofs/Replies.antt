@@ -1,5 +1,5 @@
 -- The reply of a call that was served is that of its object in some state.
-use Rattle.std.proofs.Common.{◌≡◌, ℕ, ◌==◌, Bool, true, false, List, [], ◌∷◌, ◌++◌, map, cond, refl, sym, ap, ◌∙◌, subst, drop, get_or}
+use Rattle.std.proofs.Common.{◌≡◌, ℕ, ◌==◌, Bool, true, false, List, [], ◌∷◌, ◌++◌, map, cond, ap, subst, drop, get_or}
 use Rattle.shared_calls.specs.declared.view.Entry.{Entry}
 use Rattle.shared_calls.specs.Serial.{SerialObject, replies_to_all}
 use Rattle.shared_calls.specs.Logs.{entry, calls_by}

@@ -17,7 +17,7 @@ use Rattle.seq_objects.proofs.Elements.{each_so, each_unmapped}
 use Rattle.reply_order.specs.Order.{AreInOrder}
 use Rattle.reply_order.proofs.Pairing.{firsts, paired}
 use Rattle.shared_calls.specs.Serial.{after_all, replies_to_all, IsServedInSomeOrder}
-use Rattle.shared_structures.specs.Code.Batches.{objects, AreCallsOf, IsAsked, IsSmallReply}
+use Rattle.shared_structures.specs.Code.Batches.{objects, AreCallsOf, IsAsked}
 use Rattle.shared_structures.proofs.Ordering.{HasItsOp, each_mixed, calls_length, ops_are_mixed, has_its_op}
 
 -- the operation and the place of a call

@@ -141,12 +141,12 @@ impl SharedSet {
         requires caller { IsCallerOf self.now.shared caller.old }
         requires sound { is_lost caller.old ≡ false }
         ensures own { IsCallerOf self.now.shared caller.new × (number_of caller.new ≡ number_of caller.old) }
-        ensures served { IfOk result (λ yes. IsServed set (number_of caller.old) (made caller.old) (seen caller.old) (SetOp.Insert key) (SetReply.Answer yes) (made caller.new) (seen caller.new)) }
+        ensures served { IfOk result (λ new. IsServed set (number_of caller.old) (made caller.old) (seen caller.old) (SetOp.Insert key) (SetReply.Answer new) (made caller.new) (seen caller.new)) }
         ensures stays { OnOk result (is_lost caller.new ≡ false) }
         ensures failed { IfErr result (HasFailed set (number_of caller.old) (made caller.old) (seen caller.old) (SetOp.Insert key) (made caller.new) (seen caller.new) (is_lost caller.new)) }
     {
         match self.shared.call(rt, caller, SetOp::Insert(key))? {
-            SetReply::Answer(yes) => Ok(yes),
+            SetReply::Answer(new) => Ok(new),
             SetReply::Key(_) => unreachable!(),
         }
     }
@@ -163,12 +163,12 @@ impl SharedSet {
         requires caller { IsCallerOf self.now.shared caller.old }
         requires sound { is_lost caller.old ≡ false }
         ensures own { IsCallerOf self.now.shared caller.new × (number_of caller.new ≡ number_of caller.old) }
-        ensures served { IfOk result (λ yes. IsServed set (number_of caller.old) (made caller.old) (seen caller.old) (SetOp.Remove key) (SetReply.Answer yes) (made caller.new) (seen caller.new)) }
+        ensures served { IfOk result (λ there. IsServed set (number_of caller.old) (made caller.old) (seen caller.old) (SetOp.Remove key) (SetReply.Answer there) (made caller.new) (seen caller.new)) }
         ensures stays { OnOk result (is_lost caller.new ≡ false) }
         ensures failed { IfErr result (HasFailed set (number_of caller.old) (made caller.old) (seen caller.old) (SetOp.Remove key) (made caller.new) (seen caller.new) (is_lost caller.new)) }
     {
         match self.shared.call(rt, caller, SetOp::Remove(key))? {
-            SetReply::Answer(yes) => Ok(yes),
+            SetReply::Answer(there) => Ok(there),
             SetReply::Key(_) => unreachable!(),
         }
     }
@@ -185,12 +185,12 @@ impl SharedSet {
         requires caller { IsCallerOf self.now.shared caller.old }
         requires sound { is_lost caller.old ≡ false }
         ensures own { IsCallerOf self.now.shared caller.new × (number_of caller.new ≡ number_of caller.old) }
-        ensures served { IfOk result (λ yes. IsServed set (number_of caller.old) (made caller.old) (seen caller.old) (SetOp.Find key) (SetReply.Answer yes) (made caller.new) (seen caller.new)) }
+        ensures served { IfOk result (λ found. IsServed set (number_of caller.old) (made caller.old) (seen caller.old) (SetOp.Find key) (SetReply.Answer found) (made caller.new) (seen caller.new)) }
         ensures stays { OnOk result (is_lost caller.new ≡ false) }
         ensures failed { IfErr result (HasFailed set (number_of caller.old) (made caller.old) (seen caller.old) (SetOp.Find key) (made caller.new) (seen caller.new) (is_lost caller.new)) }
     {
         match self.shared.call(rt, caller, SetOp::Find(key))? {
-            SetReply::Answer(yes) => Ok(yes),
+            SetReply::Answer(found) => Ok(found),
             SetReply::Key(_) => unreachable!(),
         }
     }

@@ -2,6 +2,7 @@
 ghost use Rattle.std.specs.Prelude.{◌≡◌, false};
 ghost use Rattle.shared_calls.specs.Views.{IsCallerOf, number_of, is_lost};
 
+use crate::sending::{queues_go_to_threads, sets_go_to_threads};
 use crate::{
     CombinedQueue, CombinedSet, CombinedStack, Counter, SharedCounter, SharedQueue, SharedSet,
     SharedStack,
@@ -112,6 +113,7 @@ fn insert_keys<R: Wait>(rt: &R, set: &SharedSet, mut caller: Caller<CombinedSet>
 fn four_threads_insert_each_key_once(rt: HostRuntime) -> Result<(), Fail> {
     let (set, callers) = SharedSet::new(rt.alloc(), 4)?;
     let shared = &set;
+    sets_go_to_threads();
     let news = thread::map_vec(
         &rt,
         callers,
@@ -145,6 +147,7 @@ fn insert_and_take<R: Wait>(rt: &R, queue: &SharedQueue, mut caller: Caller<Comb
 fn four_threads_take_what_they_insert(rt: HostRuntime) -> Result<(), Fail> {
     let (queue, callers) = SharedQueue::new(rt.alloc(), 4)?;
     let shared = &queue;
+    queues_go_to_threads();
     let sums = thread::map_vec(
         &rt,
         callers,

@@ -7,7 +7,7 @@ use Rattle.seq_objects.specs.declared.op.Op.TheVariants.{CounterAdd, Push, Pop, 
 use Rattle.seq_objects.specs.declared.call.Call.{Call}
 use Rattle.seq_objects.specs.declared.reply.Reply.{Reply}
 use Rattle.seq_objects.specs.declared.reply.Reply.TheVariants as reply
-use Rattle.seq_objects.specs.Objects.{Objects, opening, after, reply_to, argument_of}
+use Rattle.seq_objects.specs.Objects.{Objects, opening, after, reply_to}
 use Rattle.seq_objects.specs.Pairs.{AllPairsByRecursion}
 use Rattle.seq_objects.specs.Batches.{AreInBatchOrder}
 

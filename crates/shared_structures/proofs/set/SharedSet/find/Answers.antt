@@ -3,4 +3,4 @@ use Rattle.shared_structures.proofs.Replies.{replied}
 use Rattle.shared_structures.proofs.set.SharedSet.find.Goals as goal
 
 pub unreachable-requires : goal.unreachable-requires
-unreachable-requires g c = let reply = replied set _ _ _ _ _ _ _ c.in_ok-yes.ensures.served in cc
+unreachable-requires g c = let reply = replied set _ _ _ _ _ _ _ c.in_ok-found.ensures.served in cc

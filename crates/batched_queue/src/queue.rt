@@ -3,13 +3,15 @@ ghost use Rattle.std.specs.Prelude.{◌≡◌, ◌<◌, [], replicate, IfOk};
 ghost use Rattle.batched_queue.specs.Fifo.{fifo_after, fifo_replies, operations};
 ghost use Rattle.batched_queue.specs.Batches.{AreFifoBatch};
 ghost use Rattle.batched_queue.specs.Code.Stripes.{lists};
+ghost use Rattle.batched_queue.specs.Code.Pieces.{Meets};
+ghost use Rattle.seq_objects.specs.Pieces.{AllMeet};
 
 use crate::begin::{cut_pieces, puts_of};
 use crate::call::FifoCall;
 use crate::end::{put_back, replies_of};
 use crate::piece::{Piece, Served};
 use crate::serve::StripePieces;
-use piece_threads::{run_pieces, threads_for};
+use piece_threads::{run_in_turn, run_pieces, threads_for};
 use seq_objects::Reply;
 use std::alloc::{AllocError, Global};
 use std::collections::VecDeque;
@@ -97,6 +99,48 @@ impl FifoQueue {
         ensures items { IfOk result (λ p. p.0 ≡ fifo_after self (operations calls.now)) }
         ensures replies { IfOk result (λ p. p.1.items ≡ fifo_replies self (operations calls.now)) }
     {
+        self.batch_by(
+            alloc,
+            calls,
+            &|pieces: Vec<Piece>| -> Result<Vec<Served>, AllocError>
+                requires { 0 < threads }
+                ensures { IfOk result (λ outs. AllMeet Meets pieces.items outs.items) }
+            { run_pieces::<R, Piece, Served, StripePieces>(rt, alloc, pieces, threads) },
+        )
+    }
+
+    /// As `batch`, with the pieces run one after another in the caller's thread.
+    pub fn serve(
+        self,
+        alloc: Global,
+        calls: &[FifoCall],
+    ) -> Result<(FifoQueue, Vec<Reply>), AllocError>
+        requires { AreFifoBatch calls.now }
+        ensures items { IfOk result (λ p. p.0 ≡ fifo_after self (operations calls.now)) }
+        ensures replies { IfOk result (λ p. p.1.items ≡ fifo_replies self (operations calls.now)) }
+    {
+        self.batch_by(
+            alloc,
+            calls,
+            &|pieces: Vec<Piece>| -> Result<Vec<Served>, AllocError>
+                ensures { IfOk result (λ outs. AllMeet Meets pieces.items outs.items) }
+            { run_in_turn::<Piece, Served, StripePieces>(alloc, pieces) },
+        )
+    }
+
+    /// As `batch`, with the pieces run by `run`.
+    fn batch_by<F: Fn(Vec<Piece>) -> Result<Vec<Served>, AllocError>>(
+        self,
+        alloc: Global,
+        calls: &[FifoCall],
+        run: &F,
+    ) -> Result<(FifoQueue, Vec<Reply>), AllocError>
+        requires batch { AreFifoBatch calls.now }
+        requires callable { F.IsAlwaysCallable run.now }
+        requires meets { (pieces : _) (outs : _) → F.post run.now pieces (Ok outs) → AllMeet Meets pieces.items outs.items }
+        ensures items { IfOk result (λ p. p.0 ≡ fifo_after self (operations calls.now)) }
+        ensures replies { IfOk result (λ p. p.1.items ≡ fifo_replies self (operations calls.now)) }
+    {
         let puts = puts_of(alloc, calls)?;
         let FifoQueue {
             stripes,
@@ -111,7 +155,7 @@ impl FifoQueue {
         let total = count + added;
         let found = gets.min(total);
         let (stripes, pieces) = cut_pieces(alloc, stripes, first, count, &puts, found)?;
-        let outs = run_pieces::<R, Piece, Served, StripePieces>(rt, alloc, pieces, threads)?;
+        let outs = run(pieces)?;
         let (stripes, taken) = put_back(alloc, stripes, outs)?;
         let replies = replies_of(alloc, &taken, first, found, added, gets)?;
         let queue = FifoQueue {

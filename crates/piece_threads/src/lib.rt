@@ -11,5 +11,5 @@ mod bundles;
 mod pieces;
 mod run;
 
-pub use pieces::Pieces;
+pub use pieces::{Pieces, run_in_turn};
 pub use run::{run_pieces, threads_for};

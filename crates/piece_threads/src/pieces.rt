@@ -14,8 +14,8 @@ pub trait Pieces<I, O> {
         ensures { IfOk result (λ out. meets input out) };
 }
 
-/// Works on pieces one after another.
-pub(crate) fn run_in_turn<I: Drop, O: Drop, P: Pieces<I, O>>(
+/// Works on pieces one after another, in the caller's thread.
+pub fn run_in_turn<I: Drop, O: Drop, P: Pieces<I, O>>(
     alloc: Global,
     ins: Vec<I>,
 ) -> Result<Vec<O>, AllocError>

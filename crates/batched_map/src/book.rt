@@ -3,6 +3,8 @@ ghost use Rattle.std.specs.Prelude.{◌≡◌, ◌<◌, [], IfOk, IsOk};
 ghost use Rattle.rank_nodes.specs.Maps.{Ascends};
 ghost use Rattle.batched_map.specs.Maps.{map_after, map_replies, operations};
 ghost use Rattle.batched_map.specs.Batches.{AreMapBatch};
+ghost use Rattle.batched_map.specs.Code.Pieces.{Meets};
+ghost use Rattle.seq_objects.specs.Pieces.{AllMeet};
 
 use crate::begin::{begin, operations_of};
 use crate::call::MapCall;
@@ -10,7 +12,7 @@ use crate::end::join;
 use crate::piece::{Piece, Served};
 use crate::serve::RangePieces;
 use keyed_pieces::merge;
-use piece_threads::{run_pieces, threads_for};
+use piece_threads::{run_in_turn, run_pieces, threads_for};
 use rank_tree::RankTree;
 use seq_objects::Reply;
 use std::alloc::{AllocError, Global};
@@ -85,11 +87,53 @@ impl RankBook {
         ensures entries { IfOk result (λ p. p.0 ≡ map_after self (operations calls.now)) }
         ensures replies { IfOk result (λ p. p.1.items ≡ map_replies self (operations calls.now)) }
     {
+        self.batch_by(
+            alloc,
+            calls,
+            &|pieces: Vec<Piece>| -> Result<Vec<Served>, AllocError>
+                requires { 0 < threads }
+                ensures { IfOk result (λ outs. AllMeet Meets pieces.items outs.items) }
+            { run_pieces::<R, Piece, Served, RangePieces>(rt, alloc, pieces, threads) },
+        )
+    }
+
+    /// As `batch`, with the pieces run one after another in the caller's thread.
+    pub fn serve(
+        self,
+        alloc: Global,
+        calls: &[MapCall],
+    ) -> Result<(RankBook, Vec<Reply>), AllocError>
+        requires { AreMapBatch calls.now }
+        ensures entries { IfOk result (λ p. p.0 ≡ map_after self (operations calls.now)) }
+        ensures replies { IfOk result (λ p. p.1.items ≡ map_replies self (operations calls.now)) }
+    {
+        self.batch_by(
+            alloc,
+            calls,
+            &|pieces: Vec<Piece>| -> Result<Vec<Served>, AllocError>
+                ensures { IfOk result (λ outs. AllMeet Meets pieces.items outs.items) }
+            { run_in_turn::<Piece, Served, RangePieces>(alloc, pieces) },
+        )
+    }
+
+    /// As `batch`, with the pieces run by `run`.
+    fn batch_by<F: Fn(Vec<Piece>) -> Result<Vec<Served>, AllocError>>(
+        self,
+        alloc: Global,
+        calls: &[MapCall],
+        run: &F,
+    ) -> Result<(RankBook, Vec<Reply>), AllocError>
+        requires batch { AreMapBatch calls.now }
+        requires callable { F.IsAlwaysCallable run.now }
+        requires meets { (pieces : _) (outs : _) → F.post run.now pieces (Ok outs) → AllMeet Meets pieces.items outs.items }
+        ensures entries { IfOk result (λ p. p.0 ≡ map_after self (operations calls.now)) }
+        ensures replies { IfOk result (λ p. p.1.items ≡ map_replies self (operations calls.now)) }
+    {
         let RankBook { tree } = self;
         tree.keys_ascend();
         let operations = operations_of(alloc, calls)?;
         let (pieces, groups) = begin(alloc, tree, &operations)?;
-        let outs = run_pieces::<R, Piece, Served, RangePieces>(rt, alloc, pieces, threads)?;
+        let outs = run(pieces)?;
         let (tree, replies) = join(alloc, outs)?;
         let replies = merge(alloc, &groups, replies)?;
         Ok((RankBook { tree }, replies))

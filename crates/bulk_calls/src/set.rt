@@ -3,6 +3,8 @@ ghost use Rattle.std.specs.Prelude.{◌≡◌, ◌<◌, ◌≤◌, [], length, I
 ghost use Rattle.key_sets.specs.Keys.{StrictlyAscends};
 ghost use Rattle.bulk_calls.specs.Bulk.{bulk_after, bulk_replies, operations};
 ghost use Rattle.bulk_calls.specs.Batches.{AreBulkBatch};
+ghost use Rattle.bulk_calls.specs.Code.Pieces.{Meets};
+ghost use Rattle.seq_objects.specs.Pieces.{AllMeet};
 
 use crate::begin::{cut_batch, singles_of};
 use crate::call::BulkCall;
@@ -11,7 +13,7 @@ use crate::piece::{KeyOp, Piece, Served};
 use crate::replies::Replies;
 use crate::serve::RangePieces;
 use keyed_pieces::laws::dealing_is_by_range;
-use piece_threads::{run_pieces, threads_for};
+use piece_threads::{run_in_turn, run_pieces, threads_for};
 use std::alloc::{AllocError, Global};
 use std::marker::Model;
 use std::thread::Threads;
@@ -98,12 +100,54 @@ impl BulkSet {
         ensures set { IfOk result (λ p. p.0 ≡ bulk_after self (operations calls.now)) }
         ensures replies { IfOk result (λ p. p.1.items ≡ bulk_replies self (operations calls.now)) }
     {
+        self.batch_by(
+            alloc,
+            calls,
+            &|pieces: Vec<Piece>| -> Result<Vec<Served>, AllocError>
+                requires { 0 < threads }
+                ensures { IfOk result (λ outs. AllMeet Meets pieces.items outs.items) }
+            { run_pieces::<R, Piece, Served, RangePieces>(rt, alloc, pieces, threads) },
+        )
+    }
+
+    /// As `batch`, with the pieces run one after another in the caller's thread.
+    pub fn serve(
+        self,
+        alloc: Global,
+        calls: &[BulkCall],
+    ) -> Result<(BulkSet, Vec<Replies>), AllocError>
+        requires { AreBulkBatch calls.now }
+        ensures set { IfOk result (λ p. p.0 ≡ bulk_after self (operations calls.now)) }
+        ensures replies { IfOk result (λ p. p.1.items ≡ bulk_replies self (operations calls.now)) }
+    {
+        self.batch_by(
+            alloc,
+            calls,
+            &|pieces: Vec<Piece>| -> Result<Vec<Served>, AllocError>
+                ensures { IfOk result (λ outs. AllMeet Meets pieces.items outs.items) }
+            { run_in_turn::<Piece, Served, RangePieces>(alloc, pieces) },
+        )
+    }
+
+    /// As `batch`, with the pieces run by `run`.
+    fn batch_by<F: Fn(Vec<Piece>) -> Result<Vec<Served>, AllocError>>(
+        self,
+        alloc: Global,
+        calls: &[BulkCall],
+        run: &F,
+    ) -> Result<(BulkSet, Vec<Replies>), AllocError>
+        requires batch { AreBulkBatch calls.now }
+        requires callable { F.IsAlwaysCallable run.now }
+        requires meets { (pieces : _) (outs : _) → F.post run.now pieces (Ok outs) → AllMeet Meets pieces.items outs.items }
+        ensures set { IfOk result (λ p. p.0 ≡ bulk_after self (operations calls.now)) }
+        ensures replies { IfOk result (λ p. p.1.items ≡ bulk_replies self (operations calls.now)) }
+    {
         dealing_is_by_range::<KeyOp, bool>();
         self.forest.keys_ascend();
         let BulkSet { forest, mut pool } = self;
         let operations = singles_of(alloc, calls)?;
         let (groups, pieces) = cut_batch(alloc, forest, &operations, &mut pool)?;
-        let outs = run_pieces::<R, Piece, Served, RangePieces>(rt, alloc, pieces, threads)?;
+        let outs = run(pieces)?;
         let (forest, answers) = join_outs(alloc, &groups, outs, &mut pool)?;
         let replies = replies_of(alloc, calls, &answers)?;
         Ok((BulkSet { forest, pool }, replies))

@@ -1,0 +1,23 @@
+-- The serial object of a FIFO queue.
+use Rattle.std.specs.Prelude.{ℕ, List, [], ◌∷◌, ◌++◌, Some, None}
+use Rattle.shared_calls.specs.Serial.{SerialObject}
+use Rattle.shared_collections.specs.declared.fifo.FifoOp.{FifoOp}
+use Rattle.shared_collections.specs.declared.fifo.FifoOp.TheVariants.{Put, Get}
+use Rattle.shared_collections.specs.declared.fifo.FifoReply.{FifoReply}
+use Rattle.shared_collections.specs.declared.fifo.FifoReply.TheVariants.{Done, Got}
+
+-- the items after an operation, the oldest first: a put appends its item, and a get takes the oldest
+abbrev pub items_after : List ℕ → FifoOp → List ℕ
+items_after items (Put item) = items ++ item ∷ []
+items_after [] Get = []
+items_after (oldest ∷ items) Get = items
+
+-- the reply to an operation: a get replies the oldest item, or none
+abbrev pub fifo_reply : List ℕ → FifoOp → FifoReply
+fifo_reply items (Put item) = Done
+fifo_reply [] Get = Got None
+fifo_reply (oldest ∷ items) Get = Got (Some oldest)
+
+-- the queue, which is empty at first
+abbrev pub fifo : SerialObject FifoOp FifoReply
+fifo = record { State = List ℕ; opening = []; after = items_after; reply = fifo_reply }

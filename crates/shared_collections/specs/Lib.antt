@@ -1,0 +1,3 @@
+-- The specification of collections that threads share. `Code` is what only the code cites.
+pub mod Fifos
+pub mod Code

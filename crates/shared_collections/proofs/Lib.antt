@@ -1,3 +1,4 @@
 pub mod Replies
 pub mod Serving
 pub mod FifoServing
+pub mod MapServing

@@ -1,15 +1,19 @@
 //! Collections that threads share, each with calls of its own.
 //!
-//! `SharedFifo` is a FIFO queue. Each is shared by `shared_calls`: each thread has a caller, and a call stands as if it
-//! were alone. The calls that are served together are one batch of `batched_queue`, and are put into the order that it
-//! asks for; `reply_order` puts the replies back.
+//! `SharedFifo` is a FIFO queue, and `SharedMap` a map with rank and select. A collection is shared by `shared_calls`: each
+//! thread has a caller, and a call stands as if it were alone. The calls that are served together are put into the order
+//! of a batch of `batched_queue` or `batched_map`, which serves them, and `reply_order` puts the replies back.
 #![tactic(auto)]
 
 pub mod fifo;
 mod numbers;
+pub mod ranked;
 pub mod shared_fifo;
+pub mod shared_map;
 #[cfg(test)]
 mod tests;
 
 pub use fifo::{Fifo, FifoOp, FifoReply};
+pub use ranked::{RankedMap, RankedOp, RankedReply};
 pub use shared_fifo::SharedFifo;
+pub use shared_map::SharedMap;

@@ -2,8 +2,14 @@
 ghost use Rattle.std.specs.Prelude.{◌≡◌, false};
 ghost use Rattle.shared_calls.specs.Views.{IsCallerOf, number_of, is_lost};
 
-use crate::{Fifo, RankedMap, RankedOp, RankedReply, SharedFifo, SharedMap};
+use crate::bulk::asked;
+use crate::laws::threads_share_sets;
+use crate::{
+    Bulk, Fifo, FifoOp, FifoReply, RankedMap, RankedOp, RankedReply, SharedBulkSet, SharedFifo,
+    SharedMap,
+};
 use batched_map::MapOp;
+use bulk_calls::{BulkKind, BulkOp, Replies};
 use seq_objects::Reply;
 use shared_calls::{Caller, Failed};
 use std::sync::Wait;
@@ -14,20 +20,20 @@ use std::thread;
 const CALLS: u32 = 2_000;
 
 /// Puts an item and takes one, again and again.
-fn put_and_get<R: Wait>(rt: &R, queue: &SharedFifo, mut caller: Caller<Fifo>) -> Caller<Fifo>
-    requires caller { IsCallerOf queue.now.shared caller }
-    requires sound { is_lost caller ≡ false }
-    ensures { IsCallerOf queue.now.shared result × (number_of result ≡ number_of caller) }
+fn put_and_get<R: Wait>(
+    rt: &R,
+    queue: &SharedFifo,
+    caller: &mut Caller<Fifo>,
+) -> Result<(), Failed<FifoOp, FifoReply>>
+    requires caller { IsCallerOf queue.now.shared caller.old }
+    requires sound { is_lost caller.old ≡ false }
+    ensures { IsCallerOf queue.now.shared caller.new × (number_of caller.new ≡ number_of caller.old) }
 {
     for item in 0..CALLS {
-        if queue.put(rt, &mut caller, item).is_err() {
-            return caller;
-        }
-        if queue.get(rt, &mut caller).is_err() {
-            return caller;
-        }
+        queue.put(rt, caller, item)?;
+        queue.get(rt, caller)?;
     }
-    caller
+    Ok(())
 }
 
 /// A thread finds an item whenever it has put one before, so none is left.
@@ -38,7 +44,10 @@ fn four_threads_put_and_get(rt: HostRuntime) -> Result<(), Fail> {
     let callers = thread::map_vec(
         &rt,
         callers,
-        &|caller: Caller<Fifo>| put_and_get(&rt, shared, caller),
+        &|mut caller: Caller<Fifo>| {
+            drop(put_and_get(&rt, shared, &mut caller));
+            caller
+        },
     )?;
     let Some(left) = queue.close(callers) else {
         panic!(rt; "the queue is lost");
@@ -97,5 +106,47 @@ fn four_threads_put_and_remove(rt: HostRuntime) -> Result<(), Fail> {
         replies.as_slice()
             == [Reply::Number(last + 1), Reply::Empty, Reply::Number(last)].as_slice()
     );
+    Ok(())
+}
+
+/// Inserts keys and removes some of them, again and again.
+fn insert_and_remove<R: Wait>(
+    rt: &R,
+    set: &SharedBulkSet,
+    caller: &mut Caller<Bulk>,
+) -> Result<(), Failed<BulkOp, Replies>>
+    requires caller { IsCallerOf set.now.shared caller.old }
+    requires sound { is_lost caller.old ≡ false }
+    ensures { IsCallerOf set.now.shared caller.new × (number_of caller.new ≡ number_of caller.old) }
+{
+    for _ in 0..CALLS {
+        set.insert_all(rt, caller, &[5, 3, 8, 3])?;
+        set.find_all(rt, caller, &[3])?;
+        set.remove_all(rt, caller, &[8, 5])?;
+    }
+    Ok(())
+}
+
+#[test]
+fn four_threads_insert_and_remove(rt: HostRuntime) -> Result<(), Fail> {
+    threads_share_sets();
+    let (set, callers) = SharedBulkSet::new(rt.alloc(), 4)?;
+    let shared = &set;
+    let callers = thread::map_vec(
+        &rt,
+        callers,
+        &|mut caller: Caller<Bulk>| {
+            drop(insert_and_remove(&rt, shared, &mut caller));
+            caller
+        },
+    )?;
+    let Some(left) = set.close(callers) else {
+        panic!(rt; "the set is lost");
+    };
+    let ops = vec![in rt.alloc(); asked(BulkKind::Find, &[3, 5, 8])]?;
+    let calls = bulk_calls::in_batch_order(rt.alloc(), &ops)?;
+    let (_, replies) = left.serve(rt.alloc(), &calls)?;
+    assert!(rt; replies.len() == 1);
+    assert!(rt; replies[0].answers() == [true, false, false].as_slice());
     Ok(())
 }

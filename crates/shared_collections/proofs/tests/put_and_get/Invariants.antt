@@ -5,6 +5,6 @@ use Rattle.shared_collections.proofs.tests.put_and_get.Given as goal
 abbrev pub invariant-loop-item : goal.invariant-loop-item
 invariant-loop-item g l = record {
   caller : IsCallerOf l.queue.shared l.caller;
-  number : number_of l.caller ≡ number_of l.fn.caller;
+  number : number_of l.caller ≡ number_of l.initial.caller;
   sound : is_lost l.caller ≡ false;
 }

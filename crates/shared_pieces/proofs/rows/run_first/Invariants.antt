@@ -1,0 +1,9 @@
+use Rattle.std.proofs.Common.{◌≡◌}
+use Rattle.piece_board.specs.Boards.{desk_view, IsDeskOf}
+use Rattle.shared_pieces.proofs.rows.run_first.Given as goal
+
+abbrev pub invariant-loop-place : goal.invariant-loop-place
+invariant-loop-place g l = record {
+  desk : IsDeskOf l.board l.desk;
+  own : (desk_view l.desk).posted ≡ (desk_view l.fn.desk).posted;
+}

@@ -1,6 +1,7 @@
 -- Inputs at the places of a row: they are posted one after another, and collected in their order.
 use Rattle.std.proofs.Common.{◌≡◌, ℕ, zero, suc, ◌+◌, ◌<◌, ◌≤◌, None, List, [], ◌∷◌, ◌++◌, length, take, drop, get_or, sym, refl, ap, ◌∙◌, subst, arith}
 use Rattle.std.proofs.lemmas.Bool.Decides.{nat_tests}
+use Rattle.std.specs.Prelude.{zip}
 use Rattle.piece_board.specs.Entries.{entry_at}
 use Rattle.shared_pieces.specs.Batches.{AllMeet}
 use Rattle.shared_pieces.specs.Rows.{placed_from}
@@ -87,3 +88,16 @@ module _ {In Out : Type 0} (meets : In → Out → Type 0) where
       let next : suc k ≡ k + 1 = omega arith in
       subst (λ (l : List In). AllMeet meets l after) (sym more ∙ ap (λ (n : ℕ). take n ins) next)
       (subst (λ (l : List Out). AllMeet meets (take k ins ++ input ∷ []) l) (sym pushed) (meet_more (take k ins) outs input out all one))
+
+-- a pair of two lists has the items of its place
+pub pair_at : {A B : Type 0} (xs : List A) (ys : List B) (k : ℕ) (p : A × B) → length xs ≡ length ys → k < length xs → p ≡ get_or (zip xs ys) k p
+    → (p.0 ≡ get_or xs k p.0) × (p.1 ≡ get_or ys k p.1)
+pair_at [] ys k p long within is = absurd (omega (arith, within))
+pair_at (x ∷ xs) [] k p long within is = absurd (omega (arith, long))
+pair_at (x ∷ xs) (y ∷ ys) zero p long within is = (ap (λ q. q.0) is, ap (λ q. q.1) is)
+pair_at (x ∷ xs) (y ∷ ys) (suc k) p long within is = pair_at xs ys k p (omega (arith, long)) (omega (arith, within)) is
+
+pub pairs_long : {A B : Type 0} (xs : List A) (ys : List B) → length xs ≡ length ys → length (zip xs ys) ≡ length xs
+pairs_long [] ys long = refl
+pairs_long (x ∷ xs) [] long = absurd (omega (arith, long))
+pairs_long (x ∷ xs) (y ∷ ys) long = ap suc (pairs_long xs ys (omega (arith, long)))

@@ -10,8 +10,12 @@
 pub mod helper;
 mod in_pieces;
 mod rows;
+pub mod sharing;
+#[cfg(test)]
+mod tests;
 mod work;
 
 pub use helper::PieceHelper;
 pub use in_pieces::InPieces;
+pub use sharing::share_in_pieces;
 pub use work::Pieces;

@@ -1,0 +1,3 @@
+//! Threads that share a structure whose batches are served in pieces.
+
+mod tally;

@@ -1,3 +1,4 @@
 -- What the uses of shared structures come to.
 pub mod Drawing
 pub mod Adding
+pub mod Piping

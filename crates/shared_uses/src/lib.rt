@@ -2,6 +2,7 @@
 //! `sums` adds up a slice.
 #![tactic(auto)]
 
+pub mod pipes;
 pub mod sums;
 #[cfg(test)]
 mod tests;

@@ -8,7 +8,7 @@ use Rattle.shared_calls.specs.declared.view.Entry.{Entry}
 use Rattle.shared_calls.specs.declared.shared.Caller.{Caller}
 use Rattle.shared_calls.specs.declared.shared.Shared.{Shared}
 use Rattle.shared_calls.specs.declared.combined.Combined.{Ghosts}
-use Rattle.shared_calls.specs.Views.{IsCallerOf, number_of, number_of_callers, made}
+use Rattle.shared_calls.specs.Views.{AreNewCallers, IsCallerOf, number_of, number_of_callers, made}
 use Rattle.shared_calls.specs.Serial.{after_all}
 use Rattle.shared_calls.specs.Logs.{state_after}
 use Rattle.shared_calls.specs.Closing.{AreCallersOf, AreAllCalls}
@@ -16,7 +16,7 @@ use Rattle.word_counts.specs.declared.parts.Part.{Part}
 use Rattle.word_counts.specs.Words.{words_of}
 use Rattle.word_counts.specs.Counts.{tally, all_counted, counts_of}
 use Rattle.word_counts.specs.Parts.{AreParts, IsLineEnd}
-use Rattle.word_counts.proofs.Cuts.{words_cut, parts_rise}
+use Rattle.word_counts.proofs.Cuts.{drop_all, words_cut, parts_rise, parts_long, part_at}
 use Rattle.word_counts.proofs.Orders.{Counts, reordered}
 
 abbrev Op : Type 0
@@ -26,14 +26,10 @@ abbrev pub word : Entry Op ℕ → List ℕ
 word e = e.op.items
 
 -- as many callers come back as there are answers
-pub backs_long : {C E : Type 0} (cs : List C) (backs : List (Result C E)) → backs ≡ map Ok cs → length backs ≡ length cs
+backs_long : {C E : Type 0} (cs : List C) (backs : List (Result C E)) → backs ≡ map Ok cs → length backs ≡ length cs
 backs_long [] backs is = ap (λ l. length l) is
 backs_long (c ∷ cs) [] is = absurd (cc)
 backs_long {E = E} (c ∷ cs) (b ∷ backs) is = ap suc (backs_long {E = E} cs backs (ap (λ l. drop 1 l) is))
-
-drop_end : {X : Type 0} (l : List X) → drop (length l) l ≡ []
-drop_end [] = refl
-drop_end (x ∷ l) = drop_end l
 
 -- the state after a log is that of its words
 state_is : (counts : Counts) (log : List (Entry Op ℕ)) → after_all tally counts (map (λ e. e.op) log) ≡ all_counted counts (map word log)
@@ -51,7 +47,7 @@ module _ {T : Type 0} {g : Ghosts T Op ℕ} (s : Shared T Op ℕ) (text : List �
   abbrev pub Counted : {E : Type 0} → ℕ → ℕ → ℕ → Result (Caller T Op ℕ g) E → Type 0
   Counted n from to b = IfOk b (λ back. IsCallerOf s back × (number_of back ≡ n) × (map word (made back) ≡ words_of (between from to text)))
 
-  pub all_counted_in : {E : Type 0} (f : Part → Caller T Op ℕ g) (k a : ℕ) (parts : List Part) (news cs : List (Caller T Op ℕ g)) (backs : List (Result (Caller T Op ℕ g) E)) → AreParts f text a (length text) parts news
+  all_counted_in : {E : Type 0} (f : Part → Caller T Op ℕ g) (k a : ℕ) (parts : List Part) (news cs : List (Caller T Op ℕ g)) (backs : List (Result (Caller T Op ℕ g) E)) → AreParts f text a (length text) parts news
       → backs ≡ map Ok cs → length backs ≡ length parts
       → ((i : ℕ) (p : Part) (b : Result (Caller T Op ℕ g) E) → i < length parts → p ≡ get_or parts i p → b ≡ get_or backs i b → Counted (k + i) p.from p.to b) → AllCounted k a parts cs
   unfolding AllCounted
@@ -73,6 +69,22 @@ module _ {T : Type 0} {g : Ghosts T Op ℕ} (s : Shared T Op ℕ) (text : List �
         all_counted_in {E = E} f (k + 1) p.to parts news cs (map Ok cs) are.4 refl (omega (arith, same, long)) (λ i x b less at there. subst (λ (m : ℕ). Counted m x.from x.to b) (omega arith) (all (suc i) x b (omega (arith, less)) at there)),
       )
 
+  -- all callers are back, each with the words of its part
+  pub all_back : {E : Type 0} (f : Part → Caller T Op ℕ g) (n : ℕ) (parts : List Part) (news cs : List (Caller T Op ℕ g)) (backs : List (Result (Caller T Op ℕ g) E))
+      → AreParts f text 0 (length text) parts news → AreNewCallers n s news → backs ≡ map Ok cs → length backs ≡ length parts
+      → ((i : ℕ) (p : Part) (b : Result (Caller T Op ℕ g) E) → i < length parts → p ≡ get_or parts i p → b ≡ get_or backs i b → Counted (number_of (f p)) p.from p.to b)
+      → AllCounted 0 0 parts cs × (length cs ≡ n)
+  all_back {E} f n parts news cs backs are first is long each =
+      let count = first.count in
+      let as_many = parts_long f text 0 (length text) parts news are in
+      let back = backs_long {E = E} cs backs is in (
+        all_counted_in {E = E} f 0 0 parts news cs backs are is long (λ i p b less at there.
+            let here = part_at f text 0 (length text) parts news are i p less at in
+            let new = first.each i (f p) (omega (arith, less, as_many, count)) here.0 in
+            subst (λ (k : ℕ). Counted k p.from p.to b) (new.1 ∙ omega arith) (each i p b less at there)),
+        omega (arith, back, long, as_many, count),
+      )
+
   each_caller : (k a : ℕ) (parts : List Part) (cs : List (Caller T Op ℕ g)) → AllCounted k a parts cs → (i : ℕ) (c : Caller T Op ℕ g) → i < length cs → c ≡ get_or cs i c → IsCallerOf s c × (number_of c ≡ k + i)
   unfolding AllCounted
   each_caller k a parts [] all i c less is = absurd (omega (arith, less))
@@ -89,7 +101,7 @@ module _ {T : Type 0} {g : Ghosts T Op ℕ} (s : Shared T Op ℕ) (text : List �
   -- the words of all callers, one caller after another
   words_all : (k a : ℕ) (parts : List Part) (cs : List (Caller T Op ℕ g)) → AllCounted k a parts cs → map word (flat_map made cs) ≡ words_of (drop a text)
   unfolding AllCounted
-  words_all k a [] [] all = sym (ap (λ (n : ℕ). words_of (drop n text)) all ∙ ap words_of (drop_end text))
+  words_all k a [] [] all = sym (ap (λ (n : ℕ). words_of (drop n text)) all ∙ ap words_of (drop_all text))
   words_all k a [] (c ∷ cs) all = absurd all
   words_all k a (p ∷ parts) [] all = absurd all
   words_all k a (p ∷ parts) (c ∷ cs) all =

@@ -13,7 +13,7 @@ take_all : {X : Type 0} (l : List X) → take (length l) l ≡ l
 take_all [] = refl
 take_all (x ∷ l) = ap (λ m. x ∷ m) (take_all l)
 
-drop_all : {X : Type 0} (l : List X) → drop (length l) l ≡ []
+pub drop_all : {X : Type 0} (l : List X) → drop (length l) l ≡ []
 drop_all [] = refl
 drop_all (x ∷ l) = drop_all l
 

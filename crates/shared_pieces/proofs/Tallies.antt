@@ -1,9 +1,9 @@
--- A tally's replies are the squares of its numbers.
-use Rattle.std.proofs.Common.{◌≡◌, ℕ, ◌*◌, ◌∷◌, [], List, map, refl, sym, ap, ◌∙◌, length}
+-- A tally's replies are the squares of its numbers, and an echo's are its numbers.
+use Rattle.std.proofs.Common.{◌≡◌, ℕ, ◌*◌, ◌∷◌, [], List, map, refl, ap, ◌∙◌}
 use Rattle.shared_calls.specs.Serial.{replies_to_all, after_all, IsServedInSomeOrder}
 use Rattle.shared_calls.proofs.InOrder.{in_order}
 use Rattle.shared_pieces.specs.Batches.{AllMeet}
-use Rattle.shared_pieces.specs.Tallies.{tally}
+use Rattle.shared_pieces.specs.Tallies.{tally, echo}
 
 abbrev pub square : ℕ → ℕ
 square number = number * number
@@ -26,3 +26,14 @@ squares_serve before after numbers replies are is = in_order tally before after 
 pub pieces_serve : (before after : ℕ) (numbers ins outs : List ℕ) → after ≡ after_all tally before numbers → ins ≡ numbers
     → AllMeet (λ number out. out ≡ number * number) ins outs → IsServedInSomeOrder tally before numbers outs after
 pieces_serve before after numbers ins outs is same met = squares_serve before after numbers outs (met_squares ins outs met ∙ ap (map square) same) is
+
+echoes : (numbers : List ℕ) → numbers ≡ replies_to_all echo 0 numbers
+echoes [] = refl
+echoes (n ∷ numbers) = ap (λ l. n ∷ l) (echoes numbers)
+
+stays : (numbers : List ℕ) → 0 ≡ after_all echo 0 numbers
+stays [] = refl
+stays (n ∷ numbers) = stays numbers
+
+pub echoes_serve : (numbers replies : List ℕ) → replies ≡ numbers → IsServedInSomeOrder echo 0 numbers replies 0
+echoes_serve numbers replies same = in_order echo 0 0 numbers replies (same ∙ echoes numbers) (stays numbers)

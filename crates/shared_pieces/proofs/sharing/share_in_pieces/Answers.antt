@@ -1,4 +1,4 @@
-use Rattle.std.proofs.Common.{◌≡◌, ◌∙◌, ap, sym, length, get_or, arith}
+use Rattle.std.proofs.Common.{◌≡◌, ◌∙◌, ap, length, get_or, arith}
 use Rattle.shared_pieces.proofs.Places.{pair_at, pairs_long}
 use Rattle.shared_pieces.proofs.sharing.share_in_pieces.Goals as goal
 

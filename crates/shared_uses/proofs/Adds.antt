@@ -1,5 +1,5 @@
 -- Chunks of numbers whose sums are added to a counter.
-use Rattle.std.proofs.Common.{◌≡◌, ℕ, zero, suc, ◌+◌, ◌-◌, ◌%◌, ◌^◌, ◌<◌, ◌≤◌, List, [], ◌∷◌, ◌++◌, map, take, drop, length, get_or, Result, Ok, Err, IfOk, sym, refl, ap, ◌∙◌, subst, arith}
+use Rattle.std.proofs.Common.{◌≡◌, ℕ, zero, suc, ◌+◌, ◌-◌, ◌%◌, ◌^◌, ◌<◌, ◌≤◌, List, [], ◌∷◌, ◌++◌, map, take, drop, length, get_or, Result, Ok, IfOk, sym, refl, ap, ◌∙◌, subst, arith}
 use Rattle.std.specs.Prelude.{flat_map, sum, sum_by}
 use Rattle.std.proofs.lemmas.List.{take-append-drop, drop-take}
 use Rattle.std.proofs.lemmas.List.Sums.{sum_by-append, sum_by-cons, sum-map}
@@ -9,7 +9,7 @@ use Rattle.shared_calls.specs.declared.view.Entry.{Entry}
 use Rattle.shared_calls.specs.declared.shared.Caller.{Caller}
 use Rattle.shared_calls.specs.declared.shared.Shared.{Shared}
 use Rattle.shared_calls.specs.declared.combined.Combined.{Ghosts}
-use Rattle.shared_calls.specs.Views.{IsCallerOf, number_of, number_of_callers, made, is_lost, AreNewCallers}
+use Rattle.shared_calls.specs.Views.{IsCallerOf, number_of, number_of_callers, made}
 use Rattle.shared_calls.specs.Closing.{AreCallersOf, AreAllCalls}
 use Rattle.shared_structures.specs.Counters.{counter}
 use Rattle.shared_uses.specs.declared.sums.Job.{Job}

@@ -1,8 +1,8 @@
 -- Items that threads pass on through one FIFO queue.
-use Rattle.std.proofs.Common.{◌≡◌, ℕ, zero, suc, ◌+◌, ◌<◌, ◌≤◌, List, [], ◌∷◌, ◌++◌, map, drop, length, get_or, Vec, Global, Bool, true, false, Some, None, ◌==◌, if◌then◌else◌, sym, refl, ap, ◌∙◌, subst, arith, append_assoc, append-nil}
+use Rattle.std.proofs.Common.{◌≡◌, ℕ, zero, suc, ◌+◌, ◌<◌, List, [], ◌∷◌, ◌++◌, map, drop, length, get_or, Vec, Global, Bool, true, false, Some, ◌==◌, if◌then◌else◌, sym, refl, ap, ◌∙◌, subst, arith, append_assoc, append-nil}
 use Rattle.std.specs.Prelude.{flat_map, sum_by, slice_get}
 use Rattle.std.specs.List.{AllByRecursion}
-use Rattle.std.proofs.lemmas.List.{map-append, length-map, length-append}
+use Rattle.std.proofs.lemmas.List.{length-map, length-append}
 use Rattle.std.proofs.lemmas.List.Concat.{length-flat_map}
 use Rattle.std.proofs.lemmas.List.Sums.{sum_by-append, sum_by-cons}
 use Rattle.std.proofs.lemmas.List.Sorted.{sum_by-IsPermutation}
@@ -18,8 +18,8 @@ use Rattle.shared_collections.specs.Fifos.{fifo, fifo_reply, items_after}
 use Rattle.shared_collections.specs.declared.fifo.FifoOp.{FifoOp}
 use Rattle.shared_collections.specs.declared.fifo.FifoOp.TheVariants.{Put, Get}
 use Rattle.shared_collections.specs.declared.fifo.FifoReply.{FifoReply}
-use Rattle.shared_uses.specs.declared.pipes.Part.{Part}
-use Rattle.shared_uses.specs.declared.pipes.Work.{Work}
+use Rattle.shared_uses.specs.declared.passing.Part.{Part}
+use Rattle.shared_uses.specs.declared.passing.Work.{Work}
 use Rattle.shared_uses.specs.Piping.{Passed, put_by, taken_by, ArePassedOn, item_put, item_taken, puts_of, takes_of, HasRoom}
 
 abbrev Call : Type 0
@@ -221,6 +221,14 @@ module _ {T : Type 0} {g : Ghosts T FifoOp FifoReply} (s : Shared T FifoOp FifoR
   taker k (w ∷ work) (p ∷ parts) all (suc n) items is =
       let there = taker (k + 1) work parts all.5 n items is in
       let less = there.1 in (there.0, omega (arith, less), there.2, there.3)
+
+  -- each took as many items as its work says
+  pub counts_are : (k : ℕ) (work : List Work) (parts : List Part) → AllDone k work parts → map (λ (t : Vec ℕ Global). length t.items) (map (λ (p : Part). p.taken) parts) ≡ map (λ (w : Work). w.takes) work
+  unfolding AllDone
+  counts_are k [] [] all = refl
+  counts_are k [] (p ∷ parts) all = absurd all
+  counts_are k (w ∷ work) [] all = absurd all
+  counts_are k (w ∷ work) (p ∷ parts) all = let rest = counts_are (k + 1) work parts all.5 in let here = all.4 in cc
 
   -- as many items are taken as are put, so each is taken
   all_taken : (work : List Work) (parts : List Part) (log : List Call) → AllDone 0 work parts → AreAllCalls fifo (map f parts) log

@@ -1,5 +1,5 @@
 -- Items that threads pass on through one FIFO queue.
-use Rattle.std.specs.Prelude.{ℕ, ◌≡◌, ◌<◌, ◌≤◌, ◌==◌, List, [], ◌∷◌, length, if◌then◌else◌, flat_map, vec_len, vec_capacity, false, Some, None, slice_get}
+use Rattle.std.specs.Prelude.{ℕ, ◌≡◌, ◌<◌, ◌≤◌, ◌==◌, List, [], ◌∷◌, length, if◌then◌else◌, flat_map, vec_len, vec_capacity, false, Some, slice_get}
 use Rattle.std.specs.List.{AllByRecursion}
 use Rattle.shared_calls.specs.declared.view.Entry.{Entry}
 use Rattle.shared_calls.specs.Views.{IsCallerOf, number_of, made, is_lost}
@@ -8,8 +8,8 @@ use Rattle.shared_collections.specs.declared.fifo.FifoOp.{FifoOp}
 use Rattle.shared_collections.specs.declared.fifo.FifoOp.TheVariants.{Put}
 use Rattle.shared_collections.specs.declared.fifo.FifoReply.{FifoReply}
 use Rattle.shared_collections.specs.declared.fifo.FifoReply.TheVariants.{Got}
-use Rattle.shared_uses.specs.declared.pipes.Part.{Part}
-use Rattle.shared_uses.specs.declared.pipes.Work.{Work}
+use Rattle.shared_uses.specs.declared.passing.Part.{Part}
+use Rattle.shared_uses.specs.declared.passing.Work.{Work}
 
 -- an item that was passed on, with the numbers of the threads that put it and took it
 pub record Passed : Type 0 where
@@ -33,6 +33,8 @@ pub record ArePassedOn (puts taken : List (List ℕ)) : Type 0 where
   pub known : AllByRecursion (λ (p : Passed). (p.putter < length puts) × (p.taker < length taken)) line
   pub puts_stand : (n : ℕ) (items : List ℕ) → slice_get puts n ≡ Some items → put_by n line ≡ items
   pub taken_stand : (n : ℕ) (items : List ℕ) → slice_get taken n ≡ Some items → taken_by n line ≡ items
+
+-- What only the code and its proofs cite, from here on.
 
 -- the items that calls put, and those that they took
 abbrev pub item_put : FifoOp → List ℕ

@@ -2,9 +2,9 @@ use Rattle.std.proofs.Common.{◌≡◌, ℕ, List, Vec, Global, map, length, sl
 use Rattle.std.proofs.lemmas.List.{length-map}
 use Rattle.shared_calls.specs.Closing.{AreCallersOf, AreAllCalls}
 use Rattle.shared_collections.specs.Fifos.{fifo}
-use Rattle.shared_uses.specs.declared.pipes.Work.{Work}
+use Rattle.shared_uses.specs.declared.passing.Work.{Work}
 use Rattle.shared_uses.specs.Piping.{ArePassedOn}
-use Rattle.shared_uses.proofs.Passes.{Done, AllDone, all_done, are_callers, are_passed_on, caller_at, room_at}
+use Rattle.shared_uses.proofs.Passes.{Done, AllDone, all_done, are_callers, counts_are, are_passed_on, caller_at, room_at}
 use Rattle.shared_uses.proofs.pipes.pass_on.Goals as goal
 
 pub pass_each-requires-clause-ready : goal.pass_each-requires-clause-ready
@@ -43,5 +43,8 @@ returns-in-Some g c =
     let done = subst (λ (l : List Work). AllDone s (λ p. p.caller) 0 l parts) c.in_ok-parts.ensures.work all in
     let log = c.in-Some.ensures.kept in
     let calls = subst (λ l. AreAllCalls fifo l log.0) (sym c.in_ok-callers.ensures.callers) log.1 in
-    subst (λ (l : List (Vec ℕ Global)). ArePassedOn (map (λ (w : Work). w.puts.items) work) (map (λ (t : Vec ℕ Global). t.items) l)) c.in_ok-callers.ensures.taken
-    (are_passed_on s (λ p. p.caller) work parts log.0 done calls c.requires.even)
+    let taken = c.in_ok-callers.ensures.taken in record {
+      counts = subst (λ (l : List (Vec ℕ Global)). map (λ (t : Vec ℕ Global). length t.items) l ≡ map (λ (w : Work). w.takes) work) taken (counts_are s (λ p. p.caller) 0 work parts done);
+      passed = subst (λ (l : List (Vec ℕ Global)). ArePassedOn (map (λ (w : Work). w.puts.items) work) (map (λ (t : Vec ℕ Global). t.items) l)) taken
+          (are_passed_on s (λ p. p.caller) work parts log.0 done calls c.requires.even);
+    }

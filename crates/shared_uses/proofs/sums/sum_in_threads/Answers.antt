@@ -1,5 +1,4 @@
-use Rattle.std.proofs.Common.{◌≡◌, ℕ, ◌+◌, Ok, length, map, ap, sym, ◌∙◌, subst, arith}
-use Rattle.shared_uses.specs.Adding.{AreJobs}
+use Rattle.std.proofs.Common.{ℕ, ◌∙◌, subst, arith}
 use Rattle.shared_uses.proofs.Adds.{Added, job_at, jobs_long, backs_long, all_added, are_callers, sum_is}
 use Rattle.shared_uses.proofs.sums.sum_in_threads.Goals as goal
 

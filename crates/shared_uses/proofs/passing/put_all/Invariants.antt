@@ -1,12 +1,12 @@
-use Rattle.std.proofs.Common.{◌≡◌, false}
+use Rattle.std.proofs.Common.{◌≡◌, ◌++◌, false, take}
 use Rattle.shared_calls.specs.Views.{IsCallerOf, number_of, made, is_lost}
 use Rattle.shared_uses.specs.Piping.{puts_of, takes_of}
-use Rattle.shared_uses.proofs.pipes.put.Given as goal
+use Rattle.shared_uses.proofs.passing.put_all.Given as goal
 
-abbrev pub invariant-loop : goal.invariant-loop
-invariant-loop g l = record {
+abbrev pub invariant-loop-item : goal.invariant-loop-item
+invariant-loop-item g l = record {
   caller : IsCallerOf l.queue.shared l.caller × (is_lost l.caller ≡ false);
   number : number_of l.caller ≡ number_of l.fn.caller;
-  puts : puts_of (made l.caller) ≡ puts_of (made l.fn.caller);
+  puts : puts_of (made l.caller) ≡ puts_of (made l.fn.caller) ++ take l.item-index l.fn.items;
   takes : takes_of (made l.caller) ≡ takes_of (made l.fn.caller);
 }

@@ -17,5 +17,6 @@ abbrev pub queue_reply : List ℕ → QueueOp → QueueReply
 queue_reply items (Insert item) = Inserted
 queue_reply items Take = Taken (least items)
 
+-- a queue, which is empty at first
 abbrev pub queue : SerialObject QueueOp QueueReply
 queue = record { State = List ℕ; opening = []; after = queue_after; reply = queue_reply }

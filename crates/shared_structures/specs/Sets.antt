@@ -21,5 +21,6 @@ set_reply keys (Remove key) = Answer (has key keys)
 set_reply keys (Find key) = Answer (has key keys)
 set_reply keys (NextAbove key) = Key (least_above key keys)
 
+-- a set, which is empty at first
 abbrev pub set : SerialObject SetOp SetReply
 set = record { State = List ℕ; opening = []; after = set_after; reply = set_reply }

@@ -17,5 +17,6 @@ abbrev pub stack_reply : List ℕ → StackOp → StackReply
 stack_reply items (Push item) = Pushed
 stack_reply items Pop = Popped (top items)
 
+-- a stack, which is empty at first
 abbrev pub stack : SerialObject StackOp StackReply
 stack = record { State = List ℕ; opening = []; after = stack_after; reply = stack_reply }

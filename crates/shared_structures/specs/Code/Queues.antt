@@ -9,10 +9,12 @@ use Rattle.shared_structures.specs.declared.queue.QueueOp.TheVariants.{Insert, T
 use Rattle.shared_structures.specs.declared.queue.QueueReply.{QueueReply}
 use Rattle.shared_structures.specs.declared.queue.QueueReply.TheVariants.{Inserted, Taken}
 
+-- the operation that is asked
 abbrev pub op_of : QueueOp → Op
 op_of (Insert item) = op.PqInsert 0 item
 op_of Take = op.PqTake 0
 
+-- the answer that stands for a reply
 abbrev pub answer_of : Reply → QueueReply
 answer_of (reply.Number item) = Taken (Some item)
 answer_of reply.Empty = Taken None

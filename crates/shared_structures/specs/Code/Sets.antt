@@ -9,12 +9,14 @@ use Rattle.shared_structures.specs.declared.set.SetOp.TheVariants.{Insert, Remov
 use Rattle.shared_structures.specs.declared.set.SetReply.{SetReply}
 use Rattle.shared_structures.specs.declared.set.SetReply.TheVariants.{Answer, Key}
 
+-- the operation that is asked
 abbrev pub op_of : SetOp → Op
 op_of (Insert key) = op.TreeInsert 0 key
 op_of (Remove key) = op.TreeRemove 0 key
 op_of (Find key) = op.TreeFind 0 key
 op_of (NextAbove key) = op.TreeNext 0 key
 
+-- the answer that stands for a reply
 abbrev pub answer_of : Reply → SetReply
 answer_of (reply.Number key) = Key (Some key)
 answer_of reply.Empty = Key None

@@ -9,10 +9,12 @@ use Rattle.shared_structures.specs.declared.stack.StackOp.TheVariants.{Push, Pop
 use Rattle.shared_structures.specs.declared.stack.StackReply.{StackReply}
 use Rattle.shared_structures.specs.declared.stack.StackReply.TheVariants.{Pushed, Popped}
 
+-- the operation that is asked
 abbrev pub op_of : StackOp → Op
 op_of (Push item) = op.Push 0 item
 op_of Pop = op.Pop 0
 
+-- the answer that stands for a reply
 abbrev pub answer_of : Reply → StackReply
 answer_of (reply.Number item) = Popped (Some item)
 answer_of reply.Empty = Popped None

@@ -1,5 +1,5 @@
 -- A batch of the queue, as operations of its serial object.
-use Rattle.std.proofs.Common.{◌≡◌, ℕ, zero, suc, ◌<◌, ◌^◌, true, false, List, [], ◌∷◌, ◌++◌, map, length, Option, Some, None, refl, sym, ap, ◌∙◌, lit<, add-one}
+use Rattle.std.proofs.Common.{◌≡◌, ℕ, zero, suc, ◌<◌, ◌^◌, true, false, List, [], ◌∷◌, ◌++◌, map, length, Option, Some, None, refl, sym, ap, ◌∙◌, lit<, add-one, append-nil, append_assoc}
 use Rattle.std.specs.Prelude.{IsPermutation}
 use Rattle.std.specs.List.{AllByRecursion, range_with_len}
 use Rattle.std.proofs.lemmas.List.{length-map}
@@ -9,6 +9,7 @@ use Rattle.batched_queue.specs.Fifo.{fifo_after, fifo_replies, operations}
 use Rattle.batched_queue.specs.Batches.{numbered, is_of_kind, in_batch_order}
 use Rattle.shared_calls.specs.declared.view.Entry.{Entry}
 use Rattle.shared_calls.specs.Serial.{replies_to_all, after_all}
+use Rattle.shared_calls.specs.Logs.{IsSerial, state_after}
 use Rattle.shared_calls.specs.Callers.{IsServed}
 use Rattle.shared_calls.proofs.Batches.{every_shuffled}
 use Rattle.shared_calls.proofs.Lists.{replies_length}
@@ -16,7 +17,7 @@ use Rattle.shared_collections.specs.declared.fifo.FifoOp.{FifoOp}
 use Rattle.shared_collections.specs.declared.fifo.FifoOp.TheVariants.{Put, Get}
 use Rattle.shared_collections.specs.declared.fifo.FifoReply.{FifoReply}
 use Rattle.shared_collections.specs.declared.fifo.FifoReply.TheVariants.{Done, Got}
-use Rattle.shared_collections.specs.Fifos.{fifo, fifo_reply}
+use Rattle.shared_collections.specs.Fifos.{fifo, fifo_reply, items_put, items_got}
 use Rattle.shared_collections.specs.Code.Fifos.{item_in, op_of, own_reply}
 use Rattle.shared_collections.specs.Code.Numbers.{AreSmall, IsSmall, number_in}
 use Rattle.shared_collections.proofs.Replies.{served_reply}
@@ -121,3 +122,13 @@ get_is_not_done n made seen made_now seen_now served = let from = served_reply f
 -- there are as many replies as calls
 pub as_many : (items : List ℕ) (calls : List FifoCall) → length (map own_reply (fifo_replies items (operations calls))) ≡ length (map worker calls)
 as_many items calls = ap length (replies_are items calls) ∙ (replies_length fifo items (map what calls) ∙ (length-map calls what ∙ sym (length-map calls worker)))
+
+-- the items got, followed by those left, are those of the queue, followed by those put
+got_and_left : (items : List ℕ) (ops : List FifoOp) → items_got (replies_to_all fifo items ops) ++ after_all fifo items ops ≡ items ++ items_put ops
+got_and_left items [] = sym (append-nil items)
+got_and_left items (Put item ∷ ops) = got_and_left (items ++ item ∷ []) ops ∙ append_assoc items (item ∷ []) (items_put ops)
+got_and_left [] (Get ∷ ops) = got_and_left [] ops
+got_and_left (oldest ∷ items) (Get ∷ ops) = ap (λ l. oldest ∷ l) (got_and_left items ops)
+
+pub leave_in_order : (log : List (Entry FifoOp FifoReply)) → IsSerial fifo log → items_got (map (λ e. e.reply) log) ++ state_after fifo log ≡ items_put (map (λ e. e.op) log)
+leave_in_order log serial = ap (λ l. items_got l ++ state_after fifo log) serial ∙ got_and_left [] (map (λ e. e.op) log)

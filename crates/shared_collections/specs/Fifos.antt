@@ -21,3 +21,15 @@ fifo_reply (oldest ∷ items) Get = Got (Some oldest)
 -- the queue, which is empty at first
 abbrev pub fifo : SerialObject FifoOp FifoReply
 fifo = record { State = List ℕ; opening = []; after = items_after; reply = fifo_reply }
+
+-- the items that operations put, in their order
+abbrev pub items_put : List FifoOp → List ℕ
+items_put [] = []
+items_put (Put item ∷ ops) = item ∷ items_put ops
+items_put (Get ∷ ops) = items_put ops
+
+-- the items in replies, in their order
+abbrev pub items_got : List FifoReply → List ℕ
+items_got [] = []
+items_got (Got (Some item) ∷ replies) = item ∷ items_got replies
+items_got (_ ∷ replies) = items_got replies

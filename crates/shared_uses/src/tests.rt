@@ -1,6 +1,8 @@
 //! Each use, run once.
+ghost use Rattle.std.specs.Prelude.{◌≡◌, ◌+◌, ◌<◌, ◌^◌, length, IfOk};
 
 use crate::{Work, draw_in_threads, pass_on, sum_in_threads};
+use std::alloc::{AllocError, Global};
 use std::test::*;
 
 #[test]
@@ -30,27 +32,51 @@ fn chunks_are_added_up(rt: HostRuntime) -> Result<(), Fail> {
     Ok(())
 }
 
+/// So many items, each by one more than the one before.
+fn items_from(alloc: Global, first: u32, count: u32) -> Result<Vec<u32>, AllocError>
+    requires { first + count < 2 ^ 32 }
+    ensures { IfOk result (λ items. length items.items ≡ count) }
+{
+    let mut items = Vec::new(alloc);
+    for i in 0..count {
+        items.push(first + i)?;
+    }
+    Ok(items)
+}
+
 #[test]
 fn items_are_passed_on(rt: HostRuntime) -> Result<(), Fail> {
     let mut work = Vec::new(rt.alloc());
-    for (first, count, takes) in [(0u32, 500, 0), (1000, 500, 0), (0, 0, 700), (0, 0, 300)] {
-        let puts = (first..first + count).collect(rt.alloc())?;
-        work.push(Work { puts, takes })?;
-    }
+    work.push(Work {
+        puts: items_from(rt.alloc(), 0, 500)?,
+        takes: 0,
+    })?;
+    work.push(Work {
+        puts: items_from(rt.alloc(), 1000, 500)?,
+        takes: 300,
+    })?;
+    work.push(Work {
+        puts: Vec::new(rt.alloc()),
+        takes: 700,
+    })?;
     let mut all = Vec::new(rt.alloc());
     for taken in pass_on(&rt, rt.alloc(), work)? {
-        let low = taken.iter().copied().filter(|item| *item < 1000);
-        assert!(rt; low.is_sorted());
-        let high = taken.iter().copied().filter(|item| *item >= 1000);
-        assert!(rt; high.is_sorted());
+        let mut low = 0;
+        let mut high = 1000;
         for item in taken {
+            if item < 1000 {
+                assert!(rt; low <= item);
+                low = item;
+            } else {
+                assert!(rt; high <= item);
+                high = item;
+            }
             all.push(item)?;
         }
     }
     all.sort()?;
     all.dedup();
     assert!(rt; all.len() == 1000);
-    assert!(rt; all.first() == Some(&0));
     assert!(rt; all.last() == Some(&1499));
     Ok(())
 }

@@ -6,7 +6,5 @@
 
 pub mod laws;
 pub mod order;
-#[cfg(test)]
-mod tests;
 
 pub use order::in_call_order;

@@ -14,8 +14,6 @@ pub mod ranked;
 pub mod shared_bulk;
 pub mod shared_fifo;
 pub mod shared_map;
-#[cfg(test)]
-mod tests;
 
 pub use bulk::Bulk;
 pub use fifo::{Fifo, FifoOp, FifoReply};

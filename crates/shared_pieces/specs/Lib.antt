@@ -1,4 +1,3 @@
 -- The specification of batches that are served in pieces.
 pub mod Batches
 pub mod Rows
-pub mod Tallies

@@ -11,8 +11,6 @@ pub mod helper;
 mod in_pieces;
 mod rows;
 pub mod sharing;
-#[cfg(test)]
-mod tests;
 mod work;
 
 pub use helper::PieceHelper;

@@ -13,8 +13,6 @@ pub mod queue;
 pub mod sending;
 pub mod set;
 pub mod stack;
-#[cfg(test)]
-mod tests;
 
 pub use counter::{Counter, SharedCounter};
 pub use queue::{CombinedQueue, QueueOp, QueueReply, SharedQueue};

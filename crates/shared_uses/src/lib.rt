@@ -5,8 +5,6 @@
 mod passing;
 pub mod pipes;
 pub mod sums;
-#[cfg(test)]
-mod tests;
 pub mod tickets;
 
 pub use passing::{Part, Work};

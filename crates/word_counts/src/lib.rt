@@ -9,8 +9,6 @@ pub mod count;
 pub mod counts;
 pub mod laws;
 pub mod parts;
-#[cfg(test)]
-mod tests;
 
 pub use count::count_in_threads;
 pub use counts::WordCounts;

@@ -1,6 +1,0 @@
-use Rattle.std.proofs.Common.{refl}
-use Rattle.shared_pieces.proofs.Tallies.{echoes_serve}
-use Rattle.shared_pieces.proofs.tests.meeting.EchoCombined.serve.Goals as goal
-
-pub returns-clause-served : goal.returns-clause-served
-returns-clause-served c = echoes_serve c.args.ops.items c.args.ops.items refl

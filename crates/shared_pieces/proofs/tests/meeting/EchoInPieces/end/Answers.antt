@@ -1,6 +1,0 @@
-use Rattle.std.proofs.Common.{sym}
-use Rattle.shared_pieces.proofs.Tallies.{echoes_serve}
-use Rattle.shared_pieces.proofs.tests.meeting.EchoInPieces.end.Goals as goal
-
-pub returns-clause-served : goal.returns-clause-served
-returns-clause-served c o is met = echoes_serve o.ops c.args.rest.batch.items (sym is)

@@ -1,9 +1,0 @@
-use Rattle.std.proofs.Common.{◌≡◌, ◌++◌, map}
-use Rattle.shared_pieces.proofs.Tallies.{square}
-use Rattle.shared_pieces.proofs.tests.tally.TallyCombined.serve.Given as goal
-
-abbrev pub invariant-loop-op : goal.invariant-loop-op
-invariant-loop-op l = record {
-  squares : l.squares.items ≡ map square l.yielded;
-  all : l.yielded ++ l.op-iterator.rest.items ≡ l.initial.op-iterator.rest.items;
-}

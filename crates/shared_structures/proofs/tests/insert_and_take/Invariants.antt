@@ -1,9 +1,0 @@
-use Rattle.std.proofs.Common.{◌≡◌, false}
-use Rattle.shared_calls.specs.Views.{IsCallerOf, is_lost}
-use Rattle.shared_structures.proofs.tests.insert_and_take.Given as goal
-
-abbrev pub invariant-loop-item : goal.invariant-loop-item
-invariant-loop-item g l = record {
-  caller : IsCallerOf l.queue.shared l.caller;
-  sound : is_lost l.caller ≡ false;
-}

@@ -1,0 +1,10 @@
+use Rattle.std.proofs.Common.{◌≡◌, false}
+use Rattle.shared_calls.specs.Views.{IsCallerOf, number_of, is_lost}
+use Rattle.shared_tests.proofs.collections.insert_and_remove.Given as goal
+
+abbrev pub invariant-loop : goal.invariant-loop
+invariant-loop g l = record {
+  caller : IsCallerOf l.set.shared l.caller;
+  number : number_of l.caller ≡ number_of l.initial.caller;
+  sound : is_lost l.caller ≡ false;
+}

@@ -126,7 +126,7 @@ impl<'a> Helper<Tally> for PieceHelper<'a, Tally> {
 }
 
 /// The calls of each thread.
-const CALLS: u32 = 1000;
+const CALLS: u32 = 200;
 
 /// Adds the numbers below `CALLS` one after another, and counts the right answers.
 fn add_numbers<R: Wait>(
@@ -168,9 +168,9 @@ fn four_threads_share_a_tally(rt: HostRuntime) -> Result<(), Fail> {
             add_numbers(&rt, alloc, &shared, &board, place, &right)
         },
     )?;
-    assert!(rt; right.load(Ordering::SeqCst) == 4000);
+    assert!(rt; right.load(Ordering::SeqCst) == 800);
     match shared.close(callers) {
-        Some(tally) => assert!(rt; tally.sum == 4 * 499_500),
+        Some(tally) => assert!(rt; tally.sum == 4 * 19_900),
         None => assert!(rt; false),
     }
     Ok(())

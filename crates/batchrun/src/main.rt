@@ -12,8 +12,6 @@ pub mod outcome;
 pub mod program;
 pub mod run;
 pub mod status;
-#[cfg(test)]
-mod tests;
 
 use bt_io::{NoPause, Sink, StdShelf, StdSink};
 use program::batchrun;

@@ -6,4 +6,5 @@ pub mod SmallActs
 pub mod SmallArguments
 pub mod TooManyLeaves
 pub mod WordCounts
+pub mod WordPlaces
 pub mod GoodWords

@@ -7,7 +7,7 @@ ghost use Rattle.job_syntax.specs.declared.error.JobErr.TheVariants.{Bad, Memory
 
 use crate::expand::expand;
 use crate::limits::{argument_line, leaves_line};
-use job_syntax::{JobErr, JobFault, forbidden_line, last_line, read_items, words_in};
+use job_syntax::{JobErr, JobFault, forbidden_line, read_items};
 use sp_order::Job;
 use std::alloc::Global;
 
@@ -21,12 +21,11 @@ fn read(alloc: Global, text: &[u8]) -> Result<Job, JobErr>
     if let Some(line) = forbidden_line(text) {
         return Err(JobErr::Bad(JobFault::Byte { line }));
     }
-    let words = words_in(alloc, text)?;
-    let items = read_items(alloc, &words, last_line(text))?;
-    if let Some(line) = leaves_line(&words, &items) {
+    let items = read_items(alloc, text)?;
+    if let Some(line) = leaves_line(text, &items) {
         return Err(JobErr::Bad(JobFault::Leaves { line }));
     }
-    if let Some(line) = argument_line(&words, &items) {
+    if let Some(line) = argument_line(text, &items) {
         return Err(JobErr::Bad(JobFault::Argument { line }));
     }
     let job = expand(alloc, items)?;

@@ -1,4 +1,5 @@
 pub mod Chunks
+pub mod Fewer
 pub mod KindWords
 pub mod Numbers
 pub mod Quoted

@@ -1,5 +1,7 @@
 //! The parser: one pass over the words of a text, with a stack of open blocks.
 ghost use Rattle.std.specs.Prelude.{◌≡◌, ◌≤◌, ◌∷◌, Err, IfOk, OnOk, length};
+ghost use Rattle.job_syntax.specs.Text.{last_line};
+ghost use Rattle.job_syntax.specs.Words.{words_on_lines};
 ghost use Rattle.job_syntax.specs.Faults.{IsReadingFault};
 ghost use Rattle.job_syntax.specs.ItemsOf.{AreItemsOf};
 ghost use Rattle.job_syntax.specs.Code.Machine.{at, start, a_let_name, a_brace, read_from};
@@ -15,6 +17,7 @@ pub(crate) mod cursor;
 use crate::error::JobErr;
 use crate::fault::JobFault;
 use crate::item::{BlockKind, Item, UnaryOp};
+use crate::lexer::text::last_line;
 use crate::lexer::word::{Word, WordOnLine};
 use crate::parser::blocks::BlockStack;
 use crate::parser::call::{Object, read_argument, read_call};
@@ -110,11 +113,13 @@ fn read_all(alloc: Global, mut words: Cursor, last: u32) -> Result<Vec<Item>, Jo
     }
 }
 
-/// The items that the words write, or their first fault. A text that ends too early has a `Grammar` fault on line
-/// `last`.
-pub fn read_items(alloc: Global, words: &[WordOnLine], last: u32) -> Result<Vec<Item>, JobErr>
-    ensures items { IfOk result (λ items. AreItemsOf words.now (items_of items.items)) }
-    ensures fault { (fault : JobFault) → result ≡ Err (Bad fault) → IsReadingFault last words.now fault }
+/// The items that the words of a text write, or their first fault. A text that ends too early has a `Grammar` fault on
+/// its last line.
+pub fn read_items(alloc: Global, text: &[u8]) -> Result<Vec<Item>, JobErr>
+    requires { length text.now ≤ 1048576 }
+    ensures items { IfOk result (λ items. AreItemsOf (words_on_lines text.now) (items_of items.items)) }
+    ensures fault { (fault : JobFault) → result ≡ Err (Bad fault)
+        → IsReadingFault (last_line text.now) (words_on_lines text.now) fault }
 {
-    read_all(alloc, Cursor::new(words), last)
+    read_all(alloc, Cursor::new(text), last_line(text))
 }

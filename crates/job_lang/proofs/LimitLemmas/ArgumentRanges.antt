@@ -1,5 +1,8 @@
 -- The flags of arguments out of range, item by item, and the search for the first one that is set.
 use Rattle.std.proofs.Common.{◌≡◌, ℕ, ◌+◌, ◌<◌, List, [], ◌∷◌, ◌++◌, length, take, drop, get_or, Vec, Global, Bool, true, false, Option, Some, None, refl, sym, ap, ◌∙◌, append_assoc, append-nil}
+use Rattle.std.specs.Prelude.{◌||◌}
+use Rattle.std.specs.List.{list_any}
+use Rattle.std.proofs.lemmas.List.Folds.{list_any-append}
 use Rattle.job_syntax.specs.declared.lexer.word.WordOnLine.{WordOnLine}
 use Rattle.job_names.specs.declared.name.Name.{Name}
 use Rattle.job_syntax.specs.declared.item.Item.{Item, Leaf as ItemLeaf, Let as ItemLet, Block}
@@ -25,6 +28,44 @@ range_flags_of_let c name call = ap (range_flags c) (item_of_let name call) ∙ 
 pub range_flags_of_block : (c : ℕ) (kind : CodeBlockKind) (inside : Vec Item Global) → range_flags c (item_of (Block kind inside)) ≡ range_flags (copies_inside c (block_kind_of kind)) (items_of inside.items)
 range_flags_of_block c kind inside = ap (range_flags c) (item_of_block kind inside) ∙ append-nil (range_flags (copies_inside c (block_kind_of kind)) (items_of inside.items))
 
+-- the flags of the first items and of one more
+flags_more : (c : ℕ) (xs : List Item) (i : ℕ) (x : Item) → i < length xs → x ≡ get_or xs i x → range_flags c (items_of (take (i + 1) xs)) ≡ range_flags c (items_of (take i xs)) ++ range_flags c (item_of x)
+flags_more c xs i x within is = ap (range_flags c) (items_of_more xs i x within is) ∙ range_flags_then c (items_of (take i xs)) (item_of x)
+
+flags_parts : (c : ℕ) (xs : List Item) (i : ℕ) (x : Item) → i < length xs → x ≡ get_or xs i x
+    → range_flags c (items_of xs) ≡ (range_flags c (items_of (take i xs)) ++ range_flags c (item_of x)) ++ range_flags c (items_of (drop (i + 1) xs))
+flags_parts c xs i x within is =
+    ap (range_flags c) (sym (items_of_parts xs (i + 1))) ∙ range_flags_then c (items_of (take (i + 1) xs)) (items_of (drop (i + 1) xs))
+    ∙ ap (λ e. e ++ range_flags c (items_of (drop (i + 1) xs))) (flags_more c xs i x within is)
+
+-- whether some flag is set
+abbrev any : List Bool → Bool
+any flags = list_any (λ flag. flag) flags
+
+any_then : (a b : List Bool) (first last : Bool) → any a ≡ first → any b ≡ last → any (a ++ b) ≡ (first || last)
+any_then a b first last one other = list_any-append (λ flag. flag) a b ∙ rw (one, other) refl
+
+-- after one more item in which no argument is out of range
+pub none_more : (c : ℕ) (xs : List Item) (i : ℕ) (x : Item) → i < length xs → x ≡ get_or xs i x → any (range_flags c (items_of (take i xs))) ≡ false → any (range_flags c (item_of x)) ≡ false
+    → any (range_flags c (items_of (take (i + 1) xs))) ≡ false
+none_more c xs i x within is front here = ap any (flags_more c xs i x within is) ∙ any_then (range_flags c (items_of (take i xs))) (range_flags c (item_of x)) false false front here
+
+-- after an item in which one is
+pub some_here : (c : ℕ) (xs : List Item) (i : ℕ) (x : Item) → i < length xs → x ≡ get_or xs i x → any (range_flags c (items_of (take i xs))) ≡ false → any (range_flags c (item_of x)) ≡ true
+    → any (range_flags c (items_of xs)) ≡ true
+some_here c xs i x within is front here =
+    let first = range_flags c (items_of (take i xs)) in
+    let own = range_flags c (item_of x) in
+    let rest = range_flags c (items_of (drop (i + 1) xs)) in
+    ap any (flags_parts c xs i x within is) ∙ any_then (first ++ own) rest true (any rest) (any_then first own false true front here) refl
+
+-- where no flag is set no line is found
+pub none_set : (flags : List Bool) (words : List WordOnLine) → any flags ≡ false → first_line flags words ≡ None
+none_set [] words none = refl
+none_set (true ∷ flags) words none = absurd (cc none)
+none_set (false ∷ flags) [] none = refl
+none_set (false ∷ flags) (word ∷ words) none = none_set flags words none
+
 -- without words no line is found
 pub no_words : (flags : List Bool) → first_line flags [] ≡ None
 no_words [] = refl
@@ -40,7 +81,7 @@ pub passed : (c : ℕ) (xs : List Item) (i : ℕ) (x : Item) (words before behin
     → Finds (range_flags c (items_of (take i xs))) words None before → Finds (range_flags c (item_of x)) before None behind
     → Finds (range_flags c (items_of (take (i + 1) xs))) words None behind
 passed c xs i x words before behind within is front here = λ flags.
-    ap (λ e. first_line (e ++ flags) (dependents words)) (ap (range_flags c) (items_of_more xs i x within is) ∙ range_flags_then c (items_of (take i xs)) (item_of x))
+    ap (λ e. first_line (e ++ flags) (dependents words)) (flags_more c xs i x within is)
     ∙ ap (λ e. first_line e (dependents words)) (append_assoc (range_flags c (items_of (take i xs))) (range_flags c (item_of x)) flags)
     ∙ front (range_flags c (item_of x) ++ flags) ∙ here flags
 
@@ -51,10 +92,7 @@ pub found_here : (c : ℕ) (xs : List Item) (i : ℕ) (x : Item) (line : ℕ) (w
 found_here c xs i x line words before behind within is front here = λ flags.
     let rest : List Bool = range_flags c (items_of (drop (i + 1) xs)) in
     let first : List Bool = range_flags c (items_of (take i xs)) in
-    let whole : range_flags c (items_of xs) ≡ (first ++ range_flags c (item_of x)) ++ rest =
-    ap (range_flags c) (sym (items_of_parts xs (i + 1))) ∙ range_flags_then c (items_of (take (i + 1) xs)) (items_of (drop (i + 1) xs))
-    ∙ ap (λ e. e ++ rest) (ap (range_flags c) (items_of_more xs i x within is) ∙ range_flags_then c (items_of (take i xs)) (item_of x)) in
-    ap (λ e. first_line (e ++ flags) (dependents words)) whole
+    ap (λ e. first_line (e ++ flags) (dependents words)) (flags_parts c xs i x within is)
     ∙ ap (λ e. first_line e (dependents words)) (append_assoc (first ++ range_flags c (item_of x)) rest flags ∙ append_assoc first (range_flags c (item_of x)) (rest ++ flags))
     ∙ front (range_flags c (item_of x) ++ (rest ++ flags)) ∙ here (rest ++ flags)
 

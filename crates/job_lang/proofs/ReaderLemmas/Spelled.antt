@@ -1,12 +1,10 @@
 -- The objects that the items of a text name have names that are spelled as such.
-use Rattle.std.proofs.Common.{◌≡◌, ℕ, zero, suc, List, Option, Some, None, sym, ap, ◌∙◌, subst}
+use Rattle.std.proofs.Common.{ℕ, zero, suc, List, Option, Some, None, sym, subst}
 use Rattle.std.specs.List.{AllByRecursion}
 use Rattle.seq_objects.specs.Batches.{ObjectKind, Counter, Stack, Tree, Queue}
 use Rattle.job_names.specs.declared.name.Name.{Name}
-use Rattle.job_syntax.specs.declared.lexer.word.WordOnLine.{WordOnLine}
 use Rattle.job_syntax.specs.Text.{tokens}
 use Rattle.job_syntax.specs.Words.{words_on_lines}
-use Rattle.job_syntax.specs.Faults.{words_of}
 use Rattle.job_syntax.specs.ItemsOf.{AreItemsOf}
 use Rattle.job_syntax.specs.Blocks.{word_number}
 use Rattle.job_syntax.specs.Grammar.{Items, nothing, leaf_then, block_then, seq_block, par_block, for_loop, pfor_loop, Leaf, with_argument, stack_pop, queue_take, bound, work, counter_add, stack_push, tree_insert, tree_remove, tree_find, tree_next, queue_insert, leaf_words, items_words}
@@ -51,6 +49,6 @@ spelled_items (block_then (pfor_loop copies) body more) each =
     let both = block_parts (pfor_loop copies) body more each in
     each_append IsSpelled (each_copy (word_number copies) (λ k. objects_in body)) (objects_in more) (spelled_copies (word_number copies) (objects_in body) (spelled_items body both.0)) (spelled_items more both.1)
 
-pub objects_spelled : (text : List ℕ) (words : List WordOnLine) (items : Items) → words ≡ words_on_lines text → AreItemsOf words items → AreSpelled (objects_in items)
-objects_spelled text words items same read =
-    spelled_items items (subst (AllByRecursion SaysWell) (ap words_of (sym same) ∙ sym read.derives.writes) (good_words (tokens text)))
+pub objects_spelled : (text : List ℕ) (items : Items) → AreItemsOf (words_on_lines text) items → AreSpelled (objects_in items)
+objects_spelled text items read =
+    spelled_items items (subst (AllByRecursion SaysWell) (sym read.derives.writes) (good_words (tokens text)))

@@ -1,5 +1,7 @@
-//! The search for the first argument that is out of range: one that does not fit 32 bits in some copy.
+//! Arguments that are out of range, those that do not fit 32 bits in some copy: whether there is one, and the search for
+//! the line of the first.
 ghost use Rattle.std.specs.Prelude.{◌≡◌, [], ◌∷◌, IfSome, IfNone};
+ghost use Rattle.std.specs.List.{list_any};
 ghost use Rattle.job_lang.specs.Limits.{copies_inside, is_out_of_range, leaf_range_flags, range_flags};
 ghost use Rattle.job_lang.specs.Code.Searches.{dependents, Finds};
 ghost use Rattle.job_syntax.specs.Views.{argument_word, leaf_of, block_kind_of, item_of, items_of};
@@ -38,6 +40,41 @@ fn is_out_of_range(copies: u32, factor: u32, addend: u32) -> bool
     }
     let last = u64::from(copies - 1);
     u64::from(factor) * last + u64::from(addend) > u64::from(u32::MAX)
+}
+
+/// Whether the leaf's argument is out of range in some copy.
+fn is_leaf_out_of_range(copies: u32, leaf: Leaf) -> bool
+    ensures { result ≡ list_any (λ flag. flag) (leaf_range_flags copies (leaf_of leaf)) }
+{
+    let Leaf::WithArgument(_, Argument::Copies(factor, addend)) = leaf else {
+        return false;
+    };
+    is_out_of_range(copies, factor, addend)
+}
+
+/// Whether an argument of the items is out of range in some copy.
+#[cycle(testing)]
+pub(crate) fn any_out_of_range(copies: u32, items: &[Item]) -> bool
+    ensures { result ≡ list_any (λ flag. flag) (range_flags copies (items_of items.now)) }
+{
+    for item in items {
+        if is_item_out_of_range(copies, item) {
+            return true;
+        }
+    }
+    false
+}
+
+/// Whether an argument of the item is out of range in some copy.
+#[cycle(testing)]
+#[tactic(auto, using(crate::proofs::LimitLemmas::ArgumentRanges::range_flags_of_leaf, crate::proofs::LimitLemmas::ArgumentRanges::range_flags_of_let, crate::proofs::LimitLemmas::ArgumentRanges::range_flags_of_block))]
+fn is_item_out_of_range(copies: u32, item: &Item) -> bool
+    ensures { result ≡ list_any (λ flag. flag) (range_flags copies (item_of item.now)) }
+{
+    match item {
+        Item::Leaf(leaf) | Item::Let(_, leaf) => is_leaf_out_of_range(copies, *leaf),
+        Item::Block(kind, inside) => any_out_of_range(copies_inside(copies, *kind), inside),
+    }
 }
 
 /// The line of the leaf's argument, if that is out of range in some copy.

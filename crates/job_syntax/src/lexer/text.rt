@@ -52,7 +52,7 @@ pub fn forbidden_line(text: &[u8]) -> Option<u32>
 }
 
 /// The number of a text's last line. Lines count from 1.
-pub fn last_line(text: &[u8]) -> u32
+pub(crate) fn last_line(text: &[u8]) -> u32
     requires { length text.now ≤ 1048576 }
     ensures { result ≡ last_line text.now }
 {

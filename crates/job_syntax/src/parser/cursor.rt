@@ -1,9 +1,12 @@
-//! A cursor over the words that are left to read.
+//! A cursor over the words of a text that are left to read.
 ghost use Rattle.std.specs.Prelude.{◌≡◌, ◌≤◌, [], ◌∷◌, Ok, Err, MatchOption, MatchResult, length};
+ghost use Rattle.job_syntax.specs.Words.{words_on_lines};
 
 use crate::fault::JobFault;
 use crate::item::{Argument, UnaryOp};
+use crate::lexer::scanner::Scanner;
 use crate::lexer::word::{Word, WordOnLine};
+use crate::lexer::word_of::word_of;
 use crate::parser::blocks::BlockStack;
 use crate::parser::call::{Object, object_of};
 use job_names::Name;
@@ -12,11 +15,12 @@ use std::marker::Model;
 /// The most blocks that may be open at once.
 const MAX_OPEN_BLOCKS: usize = 32;
 
-/// The words that are left to read. All methods but `next` take the word that must come next, or
-/// answer the fault that they find. At the end of the words that is a `Grammar` fault on line `last`.
+/// The words of a text that are left to read, each made of its token as it is taken. Contracts see their list. All
+/// methods but `next` take the word that must come next, or answer the fault that they find. At the end of the words
+/// that is a `Grammar` fault on line `last`.
 #[derive(Drop)]
 pub struct Cursor<'a> {
-    rest: &'a [WordOnLine],
+    scanner: Scanner<'a>,
 }
 
 impl<'a> Model for Cursor<'a> {
@@ -25,15 +29,20 @@ impl<'a> Model for Cursor<'a> {
 
     ghost Value = { List WordOnLine };
 
-    ghost view = { λ cursor. cursor.rest.now };
+    ghost use Rattle.job_syntax.specs.Code.Scanners.{words_left};
+
+    ghost view = { λ cursor. words_left cursor.scanner };
 }
 
 impl<'a> Cursor<'a> {
-    /// A cursor before the first of the words.
-    pub fn new(words: &'a [WordOnLine]) -> Cursor<'a>
-        ensures { result ≡ words.now }
+    /// A cursor before the first word of a text.
+    pub fn new(text: &'a [u8]) -> Cursor<'a>
+        requires { length text.now ≤ 1048576 }
+        ensures { result ≡ words_on_lines text.now }
     {
-        Cursor { rest: words }
+        Cursor {
+            scanner: Scanner::new(text),
+        }
     }
 
     /// Takes the next word, if one is left.
@@ -41,14 +50,11 @@ impl<'a> Cursor<'a> {
         ensures { MatchOption result ((self.old ≡ []) × (self.new ≡ []))
             (λ token. self.old ≡ token ∷ self.new) }
     {
-        match self.rest {
-            [] => None,
-            [first, rest @ ..] => {
-                let token = *first;
-                self.rest = rest;
-                Some(token)
-            }
-        }
+        let token = self.scanner.next_token()?;
+        Some(WordOnLine {
+            word: word_of(token.text),
+            line: token.line,
+        })
     }
 }
 

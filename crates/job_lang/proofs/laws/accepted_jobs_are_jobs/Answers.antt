@@ -2,7 +2,6 @@ use Rattle.std.proofs.Common.{[], true, refl, sym, subst, arith}
 use Rattle.sp_order.specs.Precedence.{seq}
 use Rattle.sp_order.specs.Jobs.{JobValue, IsJob}
 use Rattle.sp_order.proofs.ObjectLemmas.{unnamed_are_named, job_numbered}
-use Rattle.job_syntax.specs.Words.{words_on_lines}
 use Rattle.job_lang.specs.Joins.{join_of}
 use Rattle.job_lang.specs.Meaning.{shapes_in, acts_in, objects_in, sources_in, job_of}
 use Rattle.job_lang.specs.Objects.{numbers_of, names_of}
@@ -26,5 +25,5 @@ returns c text job is =
     } in
     subst IsJob (sym is.means)
     (job_numbered unnamed (job_of items) (numbers_of called) (names_of called) is_unnamed
-    (are_numbered acts called (items_name items 0) (objects_spelled text (words_on_lines text) items refl is.read))
+    (are_numbered acts called (items_name items 0) (objects_spelled text items is.read))
     refl refl refl refl)

@@ -113,7 +113,7 @@ impl BlockStack {
         Ok(())
     }
 
-    /// Closes the innermost block.
+    /// Closes the innermost block. Its items keep no spare room.
     pub(crate) fn close(&mut self) -> Result<(), AllocError>
         requires some { (view self.old).blocks ≢ [] }
         requires shows { ShowsLets self.old }
@@ -122,7 +122,8 @@ impl BlockStack {
         ensures shows { OnOk result (ShowsLets self.new) }
     {
         if let Some(OpenBlock { before, kind }) = self.blocks.pop() {
-            let body = mem::replace(&mut self.items, before);
+            let mut body = mem::replace(&mut self.items, before);
+            body.shrink_to_fit();
             self.items.push(Item::Block(kind, body))?;
             self.scopes.close();
         }

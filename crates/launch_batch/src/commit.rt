@@ -5,7 +5,7 @@ ghost use Rattle.batch_history.specs.declared.batch.Entry.{Entry as EntryOf};
 ghost use Rattle.launch_batch.specs.Calls.{IsServiceOf};
 ghost use Rattle.launch_batch.specs.Code.Committing.{HaveServed};
 
-use crate::entries::entries_of;
+use crate::entries::batch_of;
 use crate::merge::ReplyCursors;
 use crate::shop::Shop;
 use crate::structures::Structures;
@@ -27,9 +27,9 @@ pub(crate) fn commit(
         → HaveServed structures.value history calls.now replies given
         → (batch : List EntryOf) × IsServiceOf history given batch × (shop ≡ history ++ batch ∷ [])) }
 {
-    let entries = entries_of(alloc, calls, replies)?;
+    let batch = batch_of(alloc, calls, replies)?;
     history.batches();
-    history.append(Batch::of(entries))?;
+    history.append(batch)?;
     Ok(Shop {
         structures,
         history,
@@ -44,6 +44,5 @@ pub(crate) fn last_batch(alloc: Global, history: &History) -> Result<Batch, Allo
 {
     let batches = history.batches();
     let last = &batches[batches.len() - 1];
-    let entries = Vec::from_slice(alloc, last.entries())?;
-    Ok(Batch::of(entries))
+    last.copied(alloc)
 }

@@ -1,6 +1,6 @@
 use Rattle.std.proofs.Common.{◌≡◌, ◌++◌, take, drop}
 use Rattle.launch_batch.proofs.Words.{calls_in, replies_in, merged_replies}
-use Rattle.launch_batch.proofs.entries.entries_of.Given as goal
+use Rattle.launch_batch.proofs.entries.batch_of.Given as goal
 
 abbrev pub invariant-loop-place : goal.invariant-loop-place
 invariant-loop-place l = record {

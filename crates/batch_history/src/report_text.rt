@@ -15,6 +15,10 @@ use job_names::Name;
 use sp_order::Job;
 use std::alloc::{AllocError, Global};
 
+/// The room that each line of a report's text gets in advance, in bytes. The lines of most reports have a little less on
+/// average.
+const LINE_ROOM: usize = 64;
+
 /// The number of entries in all batches.
 fn count_calls(book: &[Batch]) -> usize
     requires { length (flat book.now) < 2 ^ 64 }
@@ -114,19 +118,22 @@ fn push_rows(text: &mut String, rows: &[Row]) -> Result<(), AllocError>
 }
 
 /// The text of a report: a head line, a line for each call in the order of the batches, and a line for each leaf, each
-/// with a final line feed. Time and memory: linear in the length of the text.
+/// with a final line feed. Time and memory: linear in the length of the text, whose room is reserved before it is
+/// written.
 pub fn text(alloc: Global, job: &Job, report: &Report) -> Result<Vec<u8>, AllocError>
     requires rows { length report.now.rows ≡ leaf_count job.now.shape }
     requires numbers { HaveNames job.now.names (flat report.now.history) }
     ensures { IfOk result (λ bytes. bytes.items ≡ report_text job.now.names report.now) }
 {
-    let mut text = String::new(alloc);
     let book = report.history.batches();
+    let calls = count_calls(book);
+    let lines = calls.saturating_add(report.rows.list().len());
+    let mut text = String::with_capacity(alloc, lines.saturating_mul(LINE_ROOM))?;
     push_head(
         &mut text,
         report.workers,
         job.acts().len(),
-        count_calls(book),
+        calls,
         book.len(),
     )?;
     push_book(&mut text, job.names(), book)?;

@@ -2,14 +2,16 @@
 use Rattle.std.specs.Prelude.{ℕ, ◌==◌, if◌then◌else◌, Some, None}
 use Rattle.std.specs.declared.option.Option.{Option}
 use Rattle.std.specs.BTreeMap.{get}
+use Rattle.std.specs.Option.{unwrap_or}
 use Rattle.std.specs.Ordering.{nat_cmp}
 use Rattle.seq_objects.specs.Objects.{Objects, opening}
 use Rattle.seq_objects.specs.Stores.{Store}
 use Rattle.object_rows.specs.declared.by_number.ByNumber.{ByNumber}
 
--- the structure of a number, if there is one
+-- the structure of a number, if there is one; the place of a structure that was taken out has none
 unfoldable pub structure_at : {T : Type 0} → ByNumber T → ℕ → Option T
-structure_at structures number = if number == 0 then structures.first else get nat_cmp structures.others number
+structure_at structures number =
+    if number == 0 then structures.first else unwrap_or (get nat_cmp structures.others number) None
 
 -- the content of a structure; the opening one where there is none
 abbrev pub content_or_opening : {T : Type 0} → (T → Objects) → Option T → Objects

@@ -6,11 +6,12 @@ use std::alloc::{AllocError, Global};
 use std::collections::BTreeMap;
 
 /// At most one structure for each number. Contracts see them by `structure_at`. That of number 0 is kept apart, since
-/// the calls of most jobs go there.
+/// the calls of most jobs go there. A structure that is taken out leaves its place behind, so that no other moves when it
+/// is put back.
 #[derive(Drop)]
 pub struct ByNumber<T> {
     pub first: Option<T>,
-    pub others: BTreeMap<u32, T>,
+    pub others: BTreeMap<u32, Option<T>>,
 }
 
 impl<T: Drop> ByNumber<T> {
@@ -33,10 +34,12 @@ impl<T: Drop> ByNumber<T> {
             ≡ (if other == number then None else structure_at self.old other) }
     {
         if number == 0 {
-            self.first.take()
-        } else {
-            self.others.remove(&number)
+            return self.first.take();
         }
+        if let Some(place) = self.others.get_mut(&number) {
+            return place.take();
+        }
+        None
     }
 
     /// Puts a structure in as that of a number.
@@ -46,9 +49,13 @@ impl<T: Drop> ByNumber<T> {
     {
         if number == 0 {
             self.first = Some(structure);
-        } else {
-            self.others.insert(number, structure)?;
+            return Ok(());
         }
+        if let Some(place) = self.others.get_mut(&number) {
+            *place = Some(structure);
+            return Ok(());
+        }
+        self.others.insert(number, Some(structure))?;
         Ok(())
     }
 }

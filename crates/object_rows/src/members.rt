@@ -35,10 +35,15 @@ pub(crate) fn push_member<X: Drop>(
 ) -> Result<(), AllocError>
     ensures { OnOk result (list_of members.new ≡ list_of members.old ++ member ∷ []) }
 {
-    let before = mem::replace(members, Members::Many(Vec::new(alloc)));
-    let mut all = in_vector(alloc, before)?;
-    all.push(member)?;
-    *members = Members::Many(all);
+    match members {
+        Members::Many(all) => all.push(member)?,
+        Members::One(_) => {
+            let before = mem::replace(members, Members::Many(Vec::new(alloc)));
+            let mut all = in_vector(alloc, before)?;
+            all.push(member)?;
+            *members = Members::Many(all);
+        }
+    }
     Ok(())
 }
 

@@ -30,5 +30,5 @@ pub struct Served {
 #[derive(Drop)]
 pub struct Rest {
     pub groups: Vec<usize>,
-    pub pool: Pool,
+    pub pool: Box<Pool>,
 }

@@ -20,11 +20,11 @@ use std::marker::Model;
 use tree_forest::Forest;
 
 /// A set of numbers. Contracts see it as the strictly ascending list of its keys. Between batches the keys lie in at
-/// most 65 trees.
+/// most 65 trees. Its pool is made at the first batch, and lies in a box, so that a set moves as a few words.
 #[derive(Drop)]
 pub struct TreeSet {
     forest: Forest,
-    pool: Pool,
+    pool: Option<Box<Pool>>,
 }
 
 impl Model for TreeSet {
@@ -40,6 +40,15 @@ impl Model for TreeSet {
     ghost invariant = { λ s. s.forest.trees ≤ most_trees };
 }
 
+/// The pool of a set, made where it has none.
+fn pool_of(alloc: Global, pool: Option<Box<Pool>>) -> Result<Box<Pool>, AllocError> {
+    let pool = match pool {
+        Some(pool) => pool,
+        None => Box::new(alloc, Pool::new(alloc))?,
+    };
+    Ok(pool)
+}
+
 impl TreeSet {
     /// An empty set.
     ///
@@ -50,7 +59,7 @@ impl TreeSet {
     {
         Ok(TreeSet {
             forest: Forest::new(alloc),
-            pool: Pool::new(alloc),
+            pool: None,
         })
     }
 
@@ -85,14 +94,15 @@ impl Batched for TreeSet {
 
     fn begin(self, alloc: Global, calls: &[Call]) -> Result<(Rest, Vec<Piece>), AllocError> {
         self.forest.keys_ascend();
-        let mut pool = self.pool;
-        let (mut keys, mut starts) = pool.take_keys();
-        let mut groups = pool.take_groups();
+        let mut pool = pool_of(alloc, self.pool)?;
+        let kept = &mut *pool;
+        let (mut keys, mut starts) = kept.take_keys();
+        let mut groups = kept.take_groups();
         find_keys(calls, &mut keys)?;
         find_starts(&keys, &mut starts)?;
         find_groups(&starts, calls, &mut groups)?;
-        let pieces = pieces_of(alloc, self.forest, &starts, calls, &groups, &mut pool)?;
-        pool.keep_keys(keys, starts);
+        let pieces = pieces_of(alloc, self.forest, &starts, calls, &groups, kept)?;
+        kept.keep_keys(keys, starts);
         Ok((Rest { groups, pool }, pieces))
     }
 
@@ -113,9 +123,14 @@ impl Batched for TreeSet {
             → AllMeet Meets o.ins outs.items → of_set p.0 ≡ after_all (of_set o.before) o.calls) }
     {
         let mut pool = rest.pool;
-        let (mut forest, replies) = join_outs(alloc, &rest.groups, outs, &mut pool)?;
-        forest.compact(&mut pool.trees)?;
-        pool.keep_groups(rest.groups);
-        Ok((TreeSet { forest, pool }, replies))
+        let kept = &mut *pool;
+        let (mut forest, replies) = join_outs(alloc, &rest.groups, outs, kept)?;
+        forest.compact(&mut kept.trees)?;
+        kept.keep_groups(rest.groups);
+        let set = TreeSet {
+            forest,
+            pool: Some(pool),
+        };
+        Ok((set, replies))
     }
 }

@@ -1,3 +1,3 @@
 pub mod Dealing
 pub mod ByKind
-pub mod Merging
+pub mod InTurn

@@ -22,4 +22,3 @@ pub use Rattle.launch_batch.specs.Calls.{MayServe, ArePermutations, IsServiceOf}
 pub use Rattle.launch_batch.specs.Pieces.{Run, Meets, place_of, IsOutAt, ArePutBack}
 pub use Rattle.launch_batch.specs.ByStructure.{placed, counter_piece, stack_piece, tree_piece, queue_piece, counter_out, stack_out, tree_out, queue_out, part}
 pub use Rattle.launch_batch.specs.Contents.{store_of_kind, MatchesHistory, HasRoom, IsNarrow, AreOrdered}
-pub use Rattle.launch_batch.specs.Code.Merging.{left_of, without_first, merged_replies}

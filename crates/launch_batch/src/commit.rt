@@ -6,25 +6,24 @@ ghost use Rattle.launch_batch.specs.Calls.{IsServiceOf};
 ghost use Rattle.launch_batch.specs.Code.Committing.{HaveServed};
 
 use crate::entries::batch_of;
-use crate::merge::ReplyCursors;
 use crate::shop::Shop;
 use crate::structures::Structures;
 use batch_history::{Batch, History};
-use seq_objects::Call;
+use seq_objects::{Call, Reply};
 use std::alloc::{AllocError, Global};
 
-/// The shop after a batch, made from the structures, the history before the batch, its calls, and each kind's
-/// replies. The entries are built once, directly for the history.
+/// The shop after a batch, made from the structures, the history before the batch, its calls, and the replies to them.
+/// The entries are built once, directly for the history.
 pub(crate) fn commit(
     alloc: Global,
     structures: Box<Structures>,
     mut history: History,
     calls: &[Call],
-    replies: ReplyCursors,
+    replies: &[Reply],
 ) -> Result<Shop, AllocError>
-    requires { (given : List CallOf) × HaveServed structures.value history calls.now replies given }
+    requires { (given : List CallOf) × HaveServed structures.value history calls.now replies.now given }
     ensures { IfOk result (λ shop. (given : List CallOf)
-        → HaveServed structures.value history calls.now replies given
+        → HaveServed structures.value history calls.now replies.now given
         → (batch : List EntryOf) × IsServiceOf history given batch × (shop ≡ history ++ batch ∷ [])) }
 {
     let batch = batch_of(alloc, calls, replies)?;

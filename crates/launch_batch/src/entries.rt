@@ -1,44 +1,42 @@
 //! Makes the batch of served calls.
-ghost use Rattle.std.specs.Prelude.{◌≡◌, ◌∷◌, List, IfOk};
-ghost use Rattle.seq_objects.specs.declared.call.Call.{Call as CallOf};
+ghost use Rattle.std.specs.Prelude.{◌≡◌, length, IfOk};
 ghost use Rattle.batch_history.specs.Serving.{call_in, calls_in, replies_in};
-ghost use Rattle.launch_batch.specs.Code.Merging.{merged_replies};
 
-use crate::merge::ReplyCursors;
 use batch_history::{Batch, Entry};
 use seq_objects::{Call, Reply};
 use std::alloc::{AllocError, Global};
 
-/// The entry of a call, which takes the next reply of its kind.
-fn entry_of(call: Call, remaining: &mut ReplyCursors) -> Entry
+/// The entry of a call and its reply.
+fn entry_of(call: Call, reply: Reply) -> Entry
     ensures call { call_in result ≡ call }
-    ensures reply { (calls : List CallOf) → result.reply ∷ merged_replies calls remaining.new
-        ≡ merged_replies (call ∷ calls) remaining.old }
+    ensures reply { result.reply ≡ reply }
 {
-    let next = remaining.next(call.op);
     Entry {
         leaf: call.leaf,
         worker: call.worker,
         op: call.op,
-        reply: next.unwrap_or(Reply::Empty),
+        reply,
     }
 }
 
-/// The batch of the calls. Each call takes the next reply of its kind.
+/// The batch of the calls, each with the reply at its index.
 pub(crate) fn batch_of(
     alloc: Global,
     calls: &[Call],
-    mut remaining: ReplyCursors,
+    replies: &[Reply],
 ) -> Result<Batch, AllocError>
+    requires { length replies.now ≡ length calls.now }
     ensures calls { IfOk result (λ batch. calls_in batch ≡ calls.now) }
-    ensures replies { IfOk result (λ batch. replies_in batch ≡ merged_replies calls.now remaining) }
+    ensures replies { IfOk result (λ batch. replies_in batch ≡ replies.now) }
 {
     if let [call] = calls {
-        return Ok(Batch::of_one(entry_of(*call, &mut remaining)));
+        if let [reply] = replies {
+            return Ok(Batch::of_one(entry_of(*call, *reply)));
+        }
     }
     let mut entries = Vec::with_capacity(alloc, calls.len())?;
     for place in 0..calls.len() {
-        entries.push(entry_of(calls[place], &mut remaining))?;
+        entries.push(entry_of(calls[place], replies[place]))?;
     }
     Ok(Batch::of(entries))
 }

@@ -9,8 +9,7 @@ ghost use Rattle.launch_batch.specs.Contexts.{IsContextOf};
 ghost use Rattle.launch_batch.specs.Code.Outs.{HaveMet};
 
 use crate::commit::{commit, last_batch};
-use crate::merge::ReplyCursors;
-use crate::outs::{Outs, outs_of};
+use crate::outs::{Outs, sort_outs};
 use crate::piece::PieceOut;
 use crate::row::close;
 use crate::shop::Shop;
@@ -34,11 +33,11 @@ pub struct Opened {
 
 impl Opened {
     /// Closes the structures with the outs of each kind, and returns the shop after the batch.
-    pub(crate) fn into_shop(self, alloc: Global, outs: Outs) -> Result<Shop, AllocError>
+    pub(crate) fn into_shop(self, alloc: Global, outs: &mut Outs) -> Result<Shop, AllocError>
         requires { (o : BatchContext (List (List EntryOf)) Input) × IsContextOf self o
-            × HaveMet o.ins outs }
+            × HaveMet o.ins outs.old }
         ensures { IfOk result (λ s. (o : BatchContext (List (List EntryOf)) Input) → IsContextOf self o
-            → HaveMet o.ins outs
+            → HaveMet o.ins outs.old
             → (batch : List EntryOf) × IsServiceOf o.before o.calls batch
             × (s ≡ o.before ++ batch ∷ [])) }
     {
@@ -49,13 +48,18 @@ impl Opened {
         } = self;
         let all = calls.as_slice();
         let inner = &mut *structures;
-        let replies = ReplyCursors {
-            counter: close::<Counter>(alloc, &mut inner.counter, all, outs.counter)?,
-            stack: close::<Stack>(alloc, &mut inner.stack, all, outs.stack)?,
-            tree: close::<TreeSet>(alloc, &mut inner.tree, all, outs.tree)?,
-            queue: close::<Queue>(alloc, &mut inner.queue, all, outs.queue)?,
-        };
-        let shop = commit(alloc, structures, history, all, replies)?;
+        let mut replies = Vec::new(alloc);
+        close::<Counter>(
+            alloc,
+            &mut inner.counter,
+            all,
+            &mut outs.counter,
+            &mut replies,
+        )?;
+        close::<Stack>(alloc, &mut inner.stack, all, &mut outs.stack, &mut replies)?;
+        close::<TreeSet>(alloc, &mut inner.tree, all, &mut outs.tree, &mut replies)?;
+        close::<Queue>(alloc, &mut inner.queue, all, &mut outs.queue, &mut replies)?;
+        let shop = commit(alloc, structures, history, all, replies.as_slice())?;
         Ok(shop)
     }
 
@@ -70,8 +74,9 @@ impl Opened {
         ensures history { IfOk result (λ p. (o : BatchContext (List (List EntryOf)) Input) → IsContextOf self o
             → AllMeet Meets o.ins outs.items → p.0 ≡ o.before ++ p.1 ∷ []) }
     {
-        let outs = outs_of(alloc, outs)?;
-        let shop = self.into_shop(alloc, outs)?;
+        let mut apart = Outs::new();
+        sort_outs(alloc, outs, &mut apart)?;
+        let shop = self.into_shop(alloc, &mut apart)?;
         let batch = last_batch(alloc, shop.history())?;
         Ok((shop, batch))
     }

@@ -1,22 +1,24 @@
 //! The structures of one kind, which share a row of places.
-ghost use Rattle.std.specs.Prelude.{◌≡◌, ◌+◌, ◌^◌, ◌<◌, ◌≤◌, ◌++◌, ℕ, [], length, map, true, IfOk, OnOk};
+ghost use Rattle.std.specs.Prelude.{◌≡◌, ◌+◌, ◌^◌, ◌<◌, ◌++◌, ℕ, [], length, map, IfOk, OnOk};
 ghost use Rattle.seq_objects.specs.Batches.{AreOneBatch, calls_of, calls_at};
 ghost use Rattle.seq_objects.specs.Pieces.{AllMeet};
 ghost use Rattle.object_rows.specs.declared.members.Members.TheVariants.{One as OneOf};
 ghost use Rattle.object_rows.specs.Rows.{MembersMeet};
 ghost use Rattle.object_rows.specs.Contents.{store_of};
-ghost use Rattle.object_rows.specs.Cuts.{AreCut};
-ghost use Rattle.object_rows.specs.Contexts.{RowContext, IsRowContextOf, HasServed};
+ghost use Rattle.object_rows.specs.Contexts.{RowContext, IsRowContextOf};
 ghost use Rattle.launch_batch.specs.ByStructure.{placed};
+ghost use Rattle.launch_batch.specs.Code.Committing.{ServesOwn};
+ghost use Rattle.launch_batch.specs.Code.Outs.{rows_of};
+ghost use Rattle.launch_batch.specs.Code.Rows.{OpensOwn};
 
 use crate::kind::{Kind, Maker};
-use crate::merge::ReplyCursor;
+use crate::outs::take_rows;
 use crate::piece::PieceIn;
 use object_rows::close::close_row;
 use object_rows::open::open_row;
 use object_rows::run::run_rows;
 use object_rows::{Members, Row, RowList};
-use seq_objects::{Batched, Call};
+use seq_objects::{Batched, Call, Reply};
 use std::alloc::{AllocError, Global};
 
 /// The structures of one kind.
@@ -61,28 +63,6 @@ fn calls_of<'a, T: Kind>(
     Ok(own.as_slice())
 }
 
-/// Opens the structures of a row that a batch calls, and returns the pieces of each place.
-pub(crate) fn open<T: Kind>(
-    alloc: Global,
-    row: &mut RowOf<T>,
-    calls: &[Call],
-) -> Result<RowList<T::In>, AllocError>
-    requires batch { AreOneBatch calls.now }
-    requires closed { row.old.called.items ≡ [] }
-    requires may { (number : ℕ)
-        → T.may_serve (store_of T.content row.old.closed number) (calls_at number (calls_of T.kind calls.now)) }
-    ensures most { IfOk result (λ v. length v.items ≤ T.MOST) }
-    ensures some { IfOk result (λ v. 0 < length (calls_of T.kind calls.now) → 1 ≤ length v.items) }
-    ensures cut { IfOk result (λ v.
-        AreCut T.cut (store_of T.content row.old.closed) (calls_of T.kind calls.now) v.items) }
-    ensures context { IfOk result (λ v. IsRowContextOf T.content T.is_context_of row.new
-        (record { before = store_of T.content row.old.closed; calls = calls_of T.kind calls.now; ins = v.items })) }
-{
-    let mut own = Vec::new(alloc);
-    let calls = calls_of::<T>(calls, &mut own)?;
-    open_row::<T, Maker>(alloc, row, calls)
-}
-
 /// Appends pieces of one input each, at consecutive places from `first` on, and returns the place behind them.
 fn place_ones<T: Kind>(
     pieces: &mut Vec<PieceIn>,
@@ -119,7 +99,7 @@ fn place_others<T: Kind>(
 }
 
 /// Appends the pieces of a row, at consecutive places from `first` on.
-pub(crate) fn place<T: Kind>(
+fn place<T: Kind>(
     pieces: &mut Vec<PieceIn>,
     ins: RowList<T::In>,
     first: u32,
@@ -127,56 +107,100 @@ pub(crate) fn place<T: Kind>(
     requires { first + length ins.items < 2 ^ 32 }
     ensures { OnOk result (pieces.new.items ≡ pieces.old.items ++ placed T.at first ins.items) }
 {
+    pieces.reserve_exact(ins.len())?;
     let (ones, others) = ins.into_parts();
     let behind = place_ones::<T>(pieces, ones, first)?;
     place_others::<T>(pieces, others, behind)?;
     Ok(())
 }
 
-/// Closes the structures of a row that a batch has called, with the outs of each place, and returns the replies to its
-/// calls.
-pub(crate) fn close<T: Kind>(
+/// Opens the structures of a row that a batch calls, and appends their pieces, at consecutive places from `first` on.
+pub(crate) fn open<T: Kind>(
     alloc: Global,
     row: &mut RowOf<T>,
     calls: &[Call],
-    outs: RowList<T::Out>,
-) -> Result<ReplyCursor, AllocError>
-    requires met { (o : RowContext T.In) × IsRowContextOf T.content T.is_context_of row.old o
-        × (o.calls ≡ calls_of T.kind calls.now) × AllMeet (MembersMeet T.meets) o.ins outs.items }
-    ensures { IfOk result (λ v. (o : RowContext T.In) → IsRowContextOf T.content T.is_context_of row.old o
-        → o.calls ≡ calls_of T.kind calls.now → AllMeet (MembersMeet T.meets) o.ins outs.items
-        → HasServed T.content row.new o.before o.calls v) }
-{
-    if row.called.is_empty() {
-        return Ok(ReplyCursor::new(Vec::new(alloc)));
-    }
-    let mut own = Vec::new(alloc);
-    let calls = calls_of::<T>(calls, &mut own)?;
-    let replies = close_row(alloc, row, calls, outs)?;
-    Ok(ReplyCursor::new(replies))
-}
-
-/// Serves the calls of a row: opens the structures that they call, runs the pieces place after place, and closes the
-/// structures. Returns the replies.
-pub(crate) fn serve<T: Kind>(
-    alloc: Global,
-    row: &mut RowOf<T>,
-    calls: &[Call],
-) -> Result<ReplyCursor, AllocError>
+    first: u32,
+    pieces: &mut Vec<PieceIn>,
+) -> Result<(), AllocError>
     requires batch { AreOneBatch calls.now }
     requires closed { row.old.called.items ≡ [] }
     requires may { (number : ℕ)
         → T.may_serve (store_of T.content row.old.closed number) (calls_at number (calls_of T.kind calls.now)) }
-    ensures { IfOk result (λ v.
-        HasServed T.content row.new (store_of T.content row.old.closed) (calls_of T.kind calls.now) v) }
+    requires fit { first + T.MOST < 2 ^ 32 }
+    ensures { OnOk result (OpensOwn T.content T.is_context_of T.cut T.MOST T.at first row.old row.new
+        (calls_of T.kind calls.now) pieces.old.items pieces.new.items) }
 {
     let mut own = Vec::new(alloc);
     let calls = calls_of::<T>(calls, &mut own)?;
     if calls.is_empty() {
-        return Ok(ReplyCursor::new(Vec::new(alloc)));
+        return Ok(());
+    }
+    let ins = open_row::<T, Maker>(alloc, row, calls)?;
+    place::<T>(pieces, ins, first)?;
+    Ok(())
+}
+
+/// Appends replies. Where there are no others, they are taken as they are.
+fn put_behind(replies: &mut Vec<Reply>, more: Vec<Reply>) -> Result<(), AllocError>
+    ensures { OnOk result (replies.new.items ≡ replies.old.items ++ more.items) }
+{
+    if replies.is_empty() {
+        *replies = more;
+        return Ok(());
+    }
+    replies.extend_from_slice(more.as_slice())?;
+    Ok(())
+}
+
+/// Closes the structures of a row that a batch has called, with the outs of each place, which are taken out, and appends
+/// the replies to its calls.
+pub(crate) fn close<T: Kind>(
+    alloc: Global,
+    row: &mut RowOf<T>,
+    calls: &[Call],
+    outs: &mut Option<RowList<T::Out>>,
+    replies: &mut Vec<Reply>,
+) -> Result<(), AllocError>
+    requires met { (o : RowContext T.In) × IsRowContextOf T.content T.is_context_of row.old o
+        × (o.calls ≡ calls_of T.kind calls.now) × AllMeet (MembersMeet T.meets) o.ins (rows_of outs.old) }
+    ensures { OnOk result ((o : RowContext T.In) → IsRowContextOf T.content T.is_context_of row.old o
+        → o.calls ≡ calls_of T.kind calls.now → AllMeet (MembersMeet T.meets) o.ins (rows_of outs.old)
+        → ServesOwn T.content row.new o.before o.calls replies.old.items replies.new.items) }
+{
+    if row.called.is_empty() {
+        return Ok(());
+    }
+    let mut own = Vec::new(alloc);
+    let calls = calls_of::<T>(calls, &mut own)?;
+    let outs = take_rows(alloc, outs);
+    let told = close_row(alloc, row, calls, outs)?;
+    put_behind(replies, told)?;
+    Ok(())
+}
+
+/// Serves the calls of a row: opens the structures that they call, runs the pieces place after place, and closes the
+/// structures. Appends the replies.
+pub(crate) fn serve<T: Kind>(
+    alloc: Global,
+    row: &mut RowOf<T>,
+    calls: &[Call],
+    replies: &mut Vec<Reply>,
+) -> Result<(), AllocError>
+    requires batch { AreOneBatch calls.now }
+    requires closed { row.old.called.items ≡ [] }
+    requires may { (number : ℕ)
+        → T.may_serve (store_of T.content row.old.closed number) (calls_at number (calls_of T.kind calls.now)) }
+    ensures { OnOk result (ServesOwn T.content row.new (store_of T.content row.old.closed)
+        (calls_of T.kind calls.now) replies.old.items replies.new.items) }
+{
+    let mut own = Vec::new(alloc);
+    let calls = calls_of::<T>(calls, &mut own)?;
+    if calls.is_empty() {
+        return Ok(());
     }
     let ins = open_row::<T, Maker>(alloc, row, calls)?;
     let outs = run_rows::<T>(alloc, ins)?;
-    let replies = close_row(alloc, row, calls, outs)?;
-    Ok(ReplyCursor::new(replies))
+    let told = close_row(alloc, row, calls, outs)?;
+    put_behind(replies, told)?;
+    Ok(())
 }

@@ -5,7 +5,6 @@ ghost use Rattle.batch_history.specs.declared.batch.Entry.{Entry as EntryOf};
 ghost use Rattle.launch_batch.specs.Calls.{MayServe, ArePermutations, IsServiceOf};
 
 use crate::commit::commit;
-use crate::merge::ReplyCursors;
 use crate::order::put_in_batch_order;
 use crate::row;
 use crate::shop::Shop;
@@ -33,12 +32,11 @@ pub fn serve(alloc: Global, shop: Shop, calls: &mut Vec<Call>) -> Result<Shop, A
     put_in_batch_order(alloc, calls)?;
     let all = calls.as_slice();
     let inner = &mut *structures;
-    let replies = ReplyCursors {
-        counter: row::serve::<Counter>(alloc, &mut inner.counter, all)?,
-        stack: row::serve::<Stack>(alloc, &mut inner.stack, all)?,
-        tree: row::serve::<TreeSet>(alloc, &mut inner.tree, all)?,
-        queue: row::serve::<Queue>(alloc, &mut inner.queue, all)?,
-    };
-    let next = commit(alloc, structures, history, all, replies)?;
+    let mut replies = Vec::new(alloc);
+    row::serve::<Counter>(alloc, &mut inner.counter, all, &mut replies)?;
+    row::serve::<Stack>(alloc, &mut inner.stack, all, &mut replies)?;
+    row::serve::<TreeSet>(alloc, &mut inner.tree, all, &mut replies)?;
+    row::serve::<Queue>(alloc, &mut inner.queue, all, &mut replies)?;
+    let next = commit(alloc, structures, history, all, replies.as_slice())?;
     Ok(next)
 }

@@ -10,10 +10,15 @@ ghost use Rattle.launch_batch.specs.Places.{places, IsInOwnRow};
 ghost use Rattle.launch_batch.specs.Contexts.{IsContextOf};
 
 use crate::opened::Opened;
+use crate::order::put_in_batch_order;
 use crate::piece::PieceIn;
-use crate::pieces::pieces_of;
+use crate::row::open;
 use crate::structures::Structures;
 use batch_history::History;
+use batched_counter::Counter;
+use batched_pq::Queue;
+use batched_stack::Stack;
+use batched_tree::TreeSet;
 use object_rows::Row;
 use seq_objects::Call;
 use std::alloc::{AllocError, Global};
@@ -79,7 +84,7 @@ impl Shop {
     pub fn begin(
         self,
         alloc: Global,
-        calls: Vec<Call>,
+        mut calls: Vec<Call>,
     ) -> Result<(Opened, Vec<PieceIn>), AllocError>
         requires { MayServe self calls.items }
         ensures count { IfOk result (λ p. (1 ≤ length p.1.items) × (length p.1.items ≤ 56)) }
@@ -91,8 +96,23 @@ impl Shop {
         ensures context { IfOk result (λ p. IsContextOf p.0
             (record { before = self; calls = calls.items; ins = p.1.items })) }
     {
-        let (opened, rows) = self.open(alloc, calls)?;
-        let pieces = pieces_of(alloc, rows)?;
+        let Shop {
+            mut structures,
+            history,
+        } = self;
+        put_in_batch_order(alloc, &mut calls)?;
+        let all = calls.as_slice();
+        let inner = &mut *structures;
+        let mut pieces = Vec::new(alloc);
+        open::<Counter>(alloc, &mut inner.counter, all, 0, &mut pieces)?;
+        open::<Stack>(alloc, &mut inner.stack, all, 16, &mut pieces)?;
+        open::<TreeSet>(alloc, &mut inner.tree, all, 32, &mut pieces)?;
+        open::<Queue>(alloc, &mut inner.queue, all, 48, &mut pieces)?;
+        let opened = Opened {
+            structures,
+            history,
+            calls,
+        };
         Ok((opened, pieces))
     }
 }

@@ -1,13 +1,17 @@
 -- The facts at the opening of a batch.
-use Rattle.std.proofs.Common.{ℕ, ◌≡◌, ◌==◌, ◌≤◌, ◌<◌, ◌+◌, ◌*◌, ◌^◌, List, [], length, map, None, refl, ap, sym, subst, ◌∙◌, arith}
-use Rattle.launch_batch.proofs.Words.{AllByRecursion, Call, number_of, AreDistinct, ObjectKind, Counter, Stack, Tree, Queue, AreInBatchOrder, AreOneBatch, kind_of, same_kind, calls_of, calls_at, of_counter, Entry, flat, MayServe, ArePermutations, IsNarrow, Members, Objects, Reply, opening, alone, served_book, BatchContext, store_of_kind, MatchesHistory}
+use Rattle.std.proofs.Common.{ℕ, ◌≡◌, ◌==◌, ◌≤◌, ◌<◌, ◌+◌, ◌*◌, ◌^◌, List, [], length, map, None, refl, ap, sym, subst, ◌∙◌, arith, append-nil}
+use Rattle.launch_batch.proofs.Words.{AllByRecursion, Call, number_of, AreDistinct, ObjectKind, Counter, Stack, Tree, Queue, AreInBatchOrder, AreOneBatch, kind_of, same_kind, calls_of, calls_at, of_counter, Entry, flat, MayServe, ArePermutations, IsNarrow, Members, Objects, Reply, opening, alone, served_book, BatchContext, store_of_kind, MatchesHistory, PieceIn}
 use Rattle.seq_objects.specs.Batches.{AreOf}
 use Rattle.seq_objects.proofs.Filters.{are_of}
 use Rattle.object_rows.specs.declared.row.Row.{Row}
 use Rattle.object_rows.specs.Contents.{structure_at, content_or_opening, store_of}
-use Rattle.object_rows.specs.Contexts.{IsRowContextOf, HasServed}
+use Rattle.object_rows.specs.Contexts.{IsRowContextOf}
 use Rattle.object_rows.specs.Cuts.{AreCut}
 use Rattle.batched_counter.specs.Calls.{MayServe as MayAdd}
+use Rattle.object_rows.proofs.ListLemmas.{no_members}
+use Rattle.object_rows.proofs.Opening.{none_called}
+use Rattle.launch_batch.specs.Code.Committing.{ServesOwn}
+use Rattle.launch_batch.specs.Code.Rows.{OpensOwn}
 use Rattle.launch_batch.proofs.ListLemmas.Same.{each_same, distinct_same, length_same}
 use Rattle.launch_batch.proofs.MergeLemmas.Dealing.{few_pass, all_by_kind}
 use Rattle.launch_batch.proofs.BatchLemmas.Serial.{total_small}
@@ -86,6 +90,18 @@ context_for content kind is_context_of row now history calls ins own m are is =
     (subst (λ store. IsRowContextOf content is_context_of now (record { before = store; calls = calls; ins = ins })) (store_is content kind row history m) is)
 
 -- what the structures of a kind have served where they matched the history
-pub served_for : {T R : Type 0} (content : T → Objects) (kind : ObjectKind) (row now : Row T R) (history : List (List Entry)) (calls : List Call) (replies : List Reply) → MatchesHistory content kind row history
-    → HasServed content now (store_of content row.closed) calls replies → HasServed content now (store_of_kind kind (served_book history)) calls replies
-served_for content kind row now history calls replies m is = subst (λ store. HasServed content now store calls replies) (store_is content kind row history m) is
+pub served_for : {T R : Type 0} (content : T → Objects) (kind : ObjectKind) (row now : Row T R) (history : List (List Entry)) (calls : List Call) (earlier replies : List Reply) → MatchesHistory content kind row history
+    → ServesOwn content now (store_of content row.closed) calls earlier replies → ServesOwn content now (store_of_kind kind (served_book history)) calls earlier replies
+served_for content kind row now history calls earlier replies m is = subst (λ store. ServesOwn content now store calls earlier replies) (store_is content kind row history m) is
+
+-- where a kind has no calls, none of its structures is opened
+pub none_opened : {T R In : Type 0} (content : T → Objects) (is_context_of : R → BatchContext T In → Type 0) (cut : Objects → List Call → List In → Type 0) (most : ℕ) (make : ℕ → Members In → PieceIn) (first : ℕ)
+    (row : Row T R) (calls : List Call) (pieces : List PieceIn) → row.called.items ≡ [] → length calls ≡ 0 → OpensOwn content is_context_of cut most make first row row calls pieces pieces
+none_opened content is_context_of cut most make first row calls pieces closed none = record {
+  ins = [];
+  behind = sym (append-nil pieces);
+  few = omega arith;
+  some = λ some. absurd (omega (arith, some, none));
+  are_cut = let empty = no_members calls (λ some. omega (arith, some, none)) in rw empty (record { lists = []; each = tt; count = refl });
+  context = none_called content is_context_of cut row calls [] closed refl none;
+}

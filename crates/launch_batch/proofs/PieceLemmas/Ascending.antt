@@ -5,7 +5,10 @@ use Rattle.std.specs.List.{AllByRecursion, range_with_len}
 use Rattle.key_sets.specs.Keys.{StrictlyAscends}
 use Rattle.key_sets.proofs.KeyLemmas.Ascending.{ascends_both}
 use Rattle.seq_objects.proofs.Elements.{each_append, each_so}
-use Rattle.launch_batch.specs.Code.Rows.{four_rows}
+
+-- the places of a, b, c and d pieces of counters, stacks, trees and queues
+abbrev pub four_rows : ℕ → ℕ → ℕ → ℕ → List ℕ
+four_rows a b c d = range_with_len 0 a ++ range_with_len 16 b ++ range_with_len 32 c ++ range_with_len 48 d
 
 pub record IsRow (low high : ℕ) (places : List ℕ) : Type 0 where
   pub from : AllByRecursion (λ k. low ≤ k) places

@@ -15,7 +15,7 @@ use Rattle.object_rows.specs.Cuts.{AreCut}
 use Rattle.object_rows.proofs.ListLemmas.{meets_so}
 use Rattle.object_rows.proofs.Numbering.{longest_is}
 use Rattle.launch_batch.specs.Places.{row, places}
-use Rattle.launch_batch.specs.Code.Rows.{four_rows}
+use Rattle.launch_batch.proofs.PieceLemmas.Ascending.{four_rows}
 
 -- the places of one kind
 row_is : {In : Type 0} (cut : Objects → List Call → List In → Type 0) (count : Objects → List Call → ℕ)

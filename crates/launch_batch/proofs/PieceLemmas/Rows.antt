@@ -1,29 +1,33 @@
 -- The pieces of the four kinds, appended kind by kind.
-use Rattle.std.proofs.Common.{◌≡◌, ◌≤◌, ◌<◌, List, [], ◌++◌, length, map, refl, sym, subst, append-nil, append_assoc, ◌∙◌, arith, Option, filter_map}
-use Rattle.std.proofs.lemmas.List.{map-append}
+use Rattle.std.proofs.Common.{◌≡◌, ◌≤◌, ◌<◌, ◌+◌, List, [], ◌++◌, length, map, refl, ap, sym, subst, append-nil, append_assoc, ◌∙◌, arith, Option, filter_map}
+use Rattle.std.proofs.lemmas.List.{map-append, length-map}
 use Rattle.std.proofs.lemmas.List.Elements.{filter_map-append}
 use Rattle.launch_batch.proofs.Words.{AllByRecursion, Members, CounterPiece, StackPiece, TreePiece, QueuePiece, PieceIn, place_of, placed, counter_piece, stack_piece, tree_piece, queue_piece}
 use Rattle.launch_batch.specs.declared.piece.PieceIn.TheVariants as piece
-use Rattle.launch_batch.specs.declared.pieces.Rows.{Rows}
 use Rattle.launch_batch.specs.Places.{IsInOwnRow}
-use Rattle.launch_batch.specs.Code.Rows.{four_rows, FitInRows, AreApart, AreInRows}
+use Rattle.seq_objects.specs.Orders.{StrictlyAscends}
 use Rattle.seq_objects.proofs.Elements.{each_append, each_unmapped}
 use Rattle.launch_batch.proofs.PieceLemmas.Placing.{each_placed, places_placed, all_own, none_own}
-use Rattle.launch_batch.proofs.PieceLemmas.Ascending.{IsRow, row_of_four}
+use Rattle.launch_batch.proofs.PieceLemmas.Ascending.{four_rows, IsRow, row_of_four, length_of_four, some_and_few}
 
-module _ (rows : Rows) where
-  abbrev counter : List (Members CounterPiece)
-  counter = rows.counter.items
+-- the pieces of each kind in the list are these
+pub record AreApart (counter : List (Members CounterPiece)) (stack : List (Members StackPiece)) (tree : List (Members TreePiece)) (queue : List (Members QueuePiece)) (pieces : List PieceIn) : Type 0 where
+  pub counters : filter_map counter_piece pieces ≡ counter
+  pub stacks : filter_map stack_piece pieces ≡ stack
+  pub trees : filter_map tree_piece pieces ≡ tree
+  pub queues : filter_map queue_piece pieces ≡ queue
 
-  abbrev stack : List (Members StackPiece)
-  stack = rows.stack.items
+-- The list has the pieces of the four kinds, each kind's at consecutive places in its row. There are 1 to 56, and their
+-- places ascend and are below 56.
+pub record AreInRows (counter : List (Members CounterPiece)) (stack : List (Members StackPiece)) (tree : List (Members TreePiece)) (queue : List (Members QueuePiece)) (pieces : List PieceIn) : Type 0 where
+  pub apart : AreApart counter stack tree queue pieces
+  pub count : (1 ≤ length pieces) × (length pieces ≤ 56)
+  pub places : map place_of pieces ≡ four_rows (length counter) (length stack) (length tree) (length queue)
+  pub own : AllByRecursion IsInOwnRow pieces
+  pub below : AllByRecursion (λ input. place_of input < 56) pieces
+  pub ascend : StrictlyAscends (map place_of pieces)
 
-  abbrev tree : List (Members TreePiece)
-  tree = rows.tree.items
-
-  abbrev queue : List (Members QueuePiece)
-  queue = rows.queue.items
-
+module _ (counter : List (Members CounterPiece)) (stack : List (Members StackPiece)) (tree : List (Members TreePiece)) (queue : List (Members QueuePiece)) where
   -- the pieces of the four kinds, kind by kind
   abbrev pub all_of : List PieceIn
   all_of = placed piece.Counter 0 counter ++ placed piece.Stack 16 stack ++ placed piece.Tree 32 tree ++ placed piece.Queue 48 queue
@@ -71,17 +75,18 @@ module _ (rows : Rows) where
       (each_placed IsInOwnRow piece.Tree 32 tree (λ n x from below. (from, omega (arith, below, few_tree)))))
       (each_placed IsInOwnRow piece.Queue 48 queue (λ n x from below. (from, omega (arith, below, few_queue))))
 
-  -- each kind's are its row
-  pub apart : AreApart all_of rows
-  apart = record { counter = counter_are; stack = stack_are; tree = tree_are; queue = queue_are }
-
-  pub in_rows : (pieces : List PieceIn) → pieces ≡ all_of → FitInRows rows → AreInRows pieces rows
-  in_rows pieces are fit =
-      let row : IsRow 0 56 (map place_of all_of) = subst (IsRow 0 56) (sym places_are) (row_of_four _ _ _ _ fit.counter fit.stack fit.tree fit.queue) in
+  -- pieces that were appended kind by kind
+  pub in_rows : (none one two three pieces : List PieceIn) → none ≡ [] → one ≡ none ++ placed piece.Counter 0 counter → two ≡ one ++ placed piece.Stack 16 stack → three ≡ two ++ placed piece.Tree 32 tree
+      → pieces ≡ three ++ placed piece.Queue 48 queue → length counter ≤ 16 → length stack ≤ 16 → length tree ≤ 16 → length queue ≤ 8
+      → 0 < length counter + length stack + length tree + length queue → AreInRows counter stack tree queue pieces
+  in_rows none one two three pieces empty first second third fourth few_counter few_stack few_tree few_queue some =
+      let are : pieces ≡ all_of = rw (fourth, third, second, first, empty) refl in
+      let row : IsRow 0 56 (map place_of all_of) = subst (IsRow 0 56) (sym places_are) (row_of_four _ _ _ _ few_counter few_stack few_tree few_queue) in
       rw are record {
-        apart = apart;
+        apart = record { counters = counter_are; stacks = stack_are; trees = tree_are; queues = queue_are };
+        count = some_and_few _ _ _ _ _ (sym (length-map all_of place_of) ∙ ap length places_are ∙ length_of_four _ _ _ _) some few_counter few_stack few_tree few_queue;
         places = places_are;
-        own = rows_are_own fit.counter fit.stack fit.tree fit.queue;
+        own = rows_are_own few_counter few_stack few_tree few_queue;
         below = each_unmapped place_of (λ k. k < 56) all_of row.below;
         ascend = row.ascend;
       }

@@ -1,42 +1,25 @@
--- The pieces of the four kinds in one list, each kind's in its row of places.
-use Rattle.std.specs.Prelude.{ℕ, ◌≡◌, ◌<◌, ◌≤◌, ◌+◌, List, length, map, ◌++◌, filter_map}
-use Rattle.std.specs.List.{AllByRecursion, range_with_len}
-use Rattle.seq_objects.specs.Orders.{StrictlyAscends}
+-- The opening of one kind's structures, whose pieces stand in the kind's row of places.
+use Rattle.std.specs.Prelude.{ℕ, ◌≡◌, ◌<◌, ◌≤◌, List, ◌++◌, length}
+use Rattle.seq_objects.specs.declared.call.Call.{Call}
+use Rattle.seq_objects.specs.Objects.{Objects}
+use Rattle.seq_objects.specs.Pieces.{BatchContext}
+use Rattle.object_rows.specs.declared.members.Members.{Members}
+use Rattle.object_rows.specs.declared.row.Row.{Row}
+use Rattle.object_rows.specs.Contents.{store_of}
+use Rattle.object_rows.specs.Contexts.{IsRowContextOf}
+use Rattle.object_rows.specs.Cuts.{AreCut}
 use Rattle.launch_batch.specs.declared.piece.PieceIn.{PieceIn}
-use Rattle.launch_batch.specs.declared.pieces.Rows.{Rows}
-use Rattle.launch_batch.specs.Pieces.{place_of}
-use Rattle.launch_batch.specs.Places.{IsInOwnRow}
-use Rattle.launch_batch.specs.ByStructure.{counter_piece, stack_piece, tree_piece, queue_piece}
+use Rattle.launch_batch.specs.ByStructure.{placed}
 
--- the places of a, b, c and d pieces of counters, stacks, trees and queues
-abbrev pub four_rows : ℕ → ℕ → ℕ → ℕ → List ℕ
-four_rows a b c d = range_with_len 0 a ++ range_with_len 16 b ++ range_with_len 32 c ++ range_with_len 48 d
-
--- the places of the pieces of each kind, in its row
-abbrev pub places_of_rows : Rows → List ℕ
-places_of_rows rows =
-    four_rows (length rows.counter.items) (length rows.stack.items) (length rows.tree.items) (length rows.queue.items)
-
--- there is a piece, and those of each kind have room in its row
-pub record FitInRows (rows : Rows) : Type 0 where
-  pub some : 0 < length rows.counter.items + length rows.stack.items + length rows.tree.items + length rows.queue.items
-  pub counter : length rows.counter.items ≤ 16
-  pub stack : length rows.stack.items ≤ 16
-  pub tree : length rows.tree.items ≤ 16
-  pub queue : length rows.queue.items ≤ 8
-
--- the pieces of each kind in the list are those of its row
-pub record AreApart (pieces : List PieceIn) (rows : Rows) : Type 0 where
-  pub counter : filter_map counter_piece pieces ≡ rows.counter.items
-  pub stack : filter_map stack_piece pieces ≡ rows.stack.items
-  pub tree : filter_map tree_piece pieces ≡ rows.tree.items
-  pub queue : filter_map queue_piece pieces ≡ rows.queue.items
-
--- the list has the pieces of the four kinds, each at consecutive places in its kind's row; the places ascend
--- and are below 56
-pub record AreInRows (pieces : List PieceIn) (rows : Rows) : Type 0 where
-  pub apart : AreApart pieces rows
-  pub places : map place_of pieces ≡ places_of_rows rows
-  pub own : AllByRecursion IsInOwnRow pieces
-  pub below : AllByRecursion (λ input. place_of input < 56) pieces
-  pub ascend : StrictlyAscends (map place_of pieces)
+-- The structures that these calls of their kind call are open. Their pieces, at most `most`, stand behind the earlier
+-- ones, at consecutive places from `first` on.
+pub record OpensOwn {T R In : Type 0} (content : T → Objects) (is_context_of : R → BatchContext T In → Type 0)
+    (cut : Objects → List Call → List In → Type 0) (most : ℕ) (make : ℕ → Members In → PieceIn) (first : ℕ)
+    (was now : Row T R) (calls : List Call) (earlier pieces : List PieceIn) : Type 0 where
+  pub ins : List (Members In)
+  pub behind : pieces ≡ earlier ++ placed make first ins
+  pub few : length ins ≤ most
+  pub some : 0 < length calls → 1 ≤ length ins
+  pub are_cut : AreCut cut (store_of content was.closed) calls ins
+  pub context : IsRowContextOf content is_context_of now
+      (record { before = store_of content was.closed; calls = calls; ins = ins })

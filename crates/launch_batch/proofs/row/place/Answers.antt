@@ -23,4 +23,4 @@ returns g c =
     let ones = c.into_parts-ones.result.0.items in
     let long = length-map ones One in
     let behind : c.in_ok-behind.behind ≡ c.args.first + length (map One ones) = omega (arith, c.in_ok-behind.ensures.behind, long) in
-    rw (c.in_ok-place_others.ensures, c.in_ok-behind.ensures.pieces, c.into_parts-ones.ensures) (placed_both g.T.Kind.at c.args.pieces.now.items c.args.first c.in_ok-behind.behind (map One ones) c.into_parts-ones.result.1.items behind)
+    rw (c.in_ok-place_others.ensures, c.in_ok-behind.ensures.pieces, c.into_parts-ones.ensures, c.in_ok-reserve_exact.ensures.items) (placed_both g.T.Kind.at c.args.pieces.now.items c.args.first c.in_ok-behind.behind (map One ones) c.into_parts-ones.result.1.items behind)

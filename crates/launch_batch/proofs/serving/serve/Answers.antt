@@ -23,18 +23,18 @@ serve-requires-4-clause-may c = λ lifetimes number. own_at Queue number c.as_sl
 
 pub commit-requires : goal.commit-requires
 commit-requires c =
-    rw c.as_slice-all.ensures.value (
+    rw (c.as_slice-all.ensures.value, c.as_slice.ensures.value) (
       c.args.calls.now.items,
       have_served_own c.shop.inside.structures.value c.shop.inside.history c.args.calls.now.items c.put_in_batch_order.new.calls.items c.shop.invariant
           (record { may = rw c.shop.view_is c.requires; same = c.in_ok-put_in_batch_order.ensures.same; order = c.in_ok-put_in_batch_order.ensures.batch.order; narrow = c.in_ok-put_in_batch_order.ensures.narrow })
-          _ _ _ _ c.deref_mut-inner.ensures.value c.as_slice-all.ensures.value
+          _ _ _ _ _ _ _ _ c.deref_mut-inner.ensures.value c.as_slice-all.ensures.value c.new-replies.ensures.items
           c.in_ok-serve.ensures c.in_ok-serve-2.ensures c.in_ok-serve-3.ensures c.in_ok-serve-4.ensures,
     )
 
 pub returns-clause-history : goal.returns-clause-history
 returns-clause-history c =
-    rw (sym c.shop.view_is) (c.in_ok-next.ensures c.args.calls.now.items (rw c.as_slice-all.ensures.value
+    rw (sym c.shop.view_is) (c.in_ok-next.ensures c.args.calls.now.items (rw (c.as_slice-all.ensures.value, c.as_slice.ensures.value)
     (have_served_own c.shop.inside.structures.value c.shop.inside.history c.args.calls.now.items c.put_in_batch_order.new.calls.items c.shop.invariant
     (record { may = rw c.shop.view_is c.requires; same = c.in_ok-put_in_batch_order.ensures.same; order = c.in_ok-put_in_batch_order.ensures.batch.order; narrow = c.in_ok-put_in_batch_order.ensures.narrow })
-    _ _ _ _ c.deref_mut-inner.ensures.value c.as_slice-all.ensures.value
+    _ _ _ _ _ _ _ _ c.deref_mut-inner.ensures.value c.as_slice-all.ensures.value c.new-replies.ensures.items
     c.in_ok-serve.ensures c.in_ok-serve-2.ensures c.in_ok-serve-3.ensures c.in_ok-serve-4.ensures)))

@@ -29,14 +29,14 @@ close-requires-4-clause-met c = λ lifetimes.
 
 pub commit-requires : goal.commit-requires
 commit-requires c =
-    rw c.as_slice-all.ensures.value (
+    rw (c.as_slice-all.ensures.value, c.as_slice.ensures.value) (
       c.requires.0.calls,
-      have_served c.args.self c.requires.0 c.requires.1 c.args.outs c.requires.2 _ _ _ _ c.deref_mut-inner.ensures.value c.as_slice-all.ensures.value
+      have_served c.args.self c.requires.0 c.requires.1 c.args.outs.now c.requires.2 _ _ _ _ _ _ _ _ c.deref_mut-inner.ensures.value c.as_slice-all.ensures.value c.new-replies.ensures.items
           c.in_ok-close.ensures c.in_ok-close-2.ensures c.in_ok-close-3.ensures c.in_ok-close-4.ensures,
     )
 
 pub returns : goal.returns
 returns c = λ o r met.
-    rw (sym r.book) (c.in_ok-shop.ensures o.calls (rw c.as_slice-all.ensures.value
-    (have_served c.args.self o r c.args.outs met _ _ _ _ c.deref_mut-inner.ensures.value c.as_slice-all.ensures.value
+    rw (sym r.book) (c.in_ok-shop.ensures o.calls (rw (c.as_slice-all.ensures.value, c.as_slice.ensures.value)
+    (have_served c.args.self o r c.args.outs.now met _ _ _ _ _ _ _ _ c.deref_mut-inner.ensures.value c.as_slice-all.ensures.value c.new-replies.ensures.items
     c.in_ok-close.ensures c.in_ok-close-2.ensures c.in_ok-close-3.ensures c.in_ok-close-4.ensures)))

@@ -14,7 +14,7 @@ use Rattle.table_rule.specs.declared.slot.Slot.{Slot}
 use Rattle.table_rule.specs.declared.slot.Slot.TheVariants as Slots
 use Rattle.table_rule.specs.declared.view.HoldView.{HoldView}
 use Rattle.table_rule.specs.declared.view.View.{View}
-use Rattle.table_rule.specs.Words.{flag_at, count_at, tick_at, stop_at, node_at, mark_at, value_at, progress_code}
+use Rattle.table_rule.specs.Words.{flag_at, count_at, tick_at, stop_at, node_at, mark_at, value_at, shop_at, book_at, progress_code}
 use Rattle.table_rule.specs.Shows.{job_of, room_of, reserved, record_in, among}
 use Rattle.table_rule.specs.Batches.{IsLookDue, IsPublishDue, IsReleaseDue}
 use Rattle.table_rule.specs.Tasks.{TaskHere, progress_after, job_seen}
@@ -86,8 +86,8 @@ pub record EachCallRefines (key : Setting) (slots id k : ℕ) (v : View) (xs : L
       (plays.took (step slots u 1 2 none) (v, xs)) (MakesEvent (job_of key) k (Take u))
   -- a publish returns the book to the table, with the batch, and counts it
   pub publish : (h : HoldView) (batch : List Entry) → v.own.hold ≡ Some h → IsPublishDue key.workers h batch
-      → StepRefines (job_of key) (room_of key) slots id (v, (count_at key.workers, Slots.Book (reserved (h.book ++ batch ∷ []) (room_of key))) ∷ xs) (count_at key.workers) (λ y. (y + 1) % 2 ^ 64)
-      (plays.published (step slots (count_at key.workers) 1 0 none) (v, (count_at key.workers, Slots.Book (reserved (h.book ++ batch ∷ []) (room_of key))) ∷ xs))
+      → StepRefines (job_of key) (room_of key) slots id (v, (book_at key.workers, Slots.Book (reserved (h.book ++ batch ∷ []) (room_of key))) ∷ xs) (count_at key.workers) (λ y. (y + 1) % 2 ^ 64)
+      (plays.published (step slots (count_at key.workers) 1 0 none) (v, (book_at key.workers, Slots.Book (reserved (h.book ++ batch ∷ []) (room_of key))) ∷ xs))
       (MakesEvent (job_of key) k Publish)
   -- an answer returns a taken worker's record slot to the table, with its receipt
   pub answer : (h : HoldView) (u : ℕ) (call : OpRecord) (r : Receipt) → v.own.hold ≡ Some h → h.published ≡ true
@@ -96,14 +96,14 @@ pub record EachCallRefines (key : Setting) (slots id k : ℕ) (v : View) (xs : L
       (λ y. plays.answered (step slots u 3 0 none) (v, (u, Slots.Receipt r) ∷ xs) 3) (MakesEvent (job_of key) k (Answer u r))
   -- a release returns the shop after a publish, and the shop and the book if nothing was published
   pub release : (h : HoldView) → v.own.hold ≡ Some h → IsReleaseDue key.workers h → h.published ≡ true
-      → StepRefines (job_of key) (room_of key) slots id (v, (flag_at key.workers, Slots.Shop h.book) ∷ xs) (flag_at key.workers) (λ y. 0)
-      (λ y. plays.released_shop (step slots (flag_at key.workers) 0 0 none) (v, (flag_at key.workers, Slots.Shop h.book) ∷ xs) 0)
+      → StepRefines (job_of key) (room_of key) slots id (v, (shop_at key.workers, Slots.Shop h.book) ∷ xs) (flag_at key.workers) (λ y. 0)
+      (λ y. plays.released_shop (step slots (flag_at key.workers) 0 0 none) (v, (shop_at key.workers, Slots.Shop h.book) ∷ xs) 0)
       (MakesEvent (job_of key) k Release)
   pub release_unserved : (h : HoldView) → v.own.hold ≡ Some h → IsReleaseDue key.workers h
       → StepRefines (job_of key) (room_of key) slots id
-      (v, (flag_at key.workers, Slots.Shop h.book) ∷ (flag_at key.workers + 1, Slots.Book (reserved h.book (room_of key))) ∷ xs) (flag_at key.workers) (λ y. 0)
+      (v, (shop_at key.workers, Slots.Shop h.book) ∷ (book_at key.workers, Slots.Book (reserved h.book (room_of key))) ∷ xs) (flag_at key.workers) (λ y. 0)
       (λ y. plays.released_both (step slots (flag_at key.workers) 0 0 none)
-      (v, (flag_at key.workers, Slots.Shop h.book) ∷ (flag_at key.workers + 1, Slots.Book (reserved h.book (room_of key))) ∷ xs) 0)
+      (v, (shop_at key.workers, Slots.Shop h.book) ∷ (book_at key.workers, Slots.Book (reserved h.book (room_of key))) ∷ xs) 0)
       (MakesEvent (job_of key) k Release)
   -- a leave is an event if it finds its own status served (3), else a stutter
   pub leave : v.own.call ≡ Out → v.own.hold ≡ None

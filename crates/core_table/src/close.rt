@@ -112,7 +112,7 @@ impl CoreTable {
         let Pass { seat, .. } = pass;
         let mut closed = table.close_with(seat);
         let rows = read_rows(&closed, &setting.job, layout, leaf_total, rows);
-        let at = layout.batch_count();
+        let at = layout.book_slot();
         let last = closed.take(at);
         drop_slots(closed, at);
         match last {

@@ -60,12 +60,14 @@ impl CoreTable {
     {
         self.laws_hold();
         let shared = &self.table.shared;
-        let at = self.layout().flag();
+        let layout = self.layout();
+        let at = layout.flag();
         let mine = pass.worker as u64 + 1;
         if shared.compare_exchange::<Win>(&mut pass.seat, at, 0, mine) != 0 {
             return None;
         }
-        let slot = shared.exchange(&mut pass.seat, at, Slot::Vacant);
+        let home = layout.shop_slot();
+        let slot = shared.exchange(&mut pass.seat, home, Slot::Vacant);
         pass.seat.turn();
         pass.published = false;
         match slot {
@@ -150,13 +152,15 @@ impl CoreTable {
     {
         self.laws_hold();
         let shared = &self.table.shared;
-        let at = self.layout().batch_count();
+        let layout = self.layout();
+        let at = layout.batch_count();
+        let home = layout.book_slot();
         shared.load::<CheckRoom>(&mut pass.seat, at);
-        let Slot::Book(mut book) = shared.exchange(&mut pass.seat, at, Slot::Vacant) else {
+        let Slot::Book(mut book) = shared.exchange(&mut pass.seat, home, Slot::Vacant) else {
             unreachable!()
         };
         book.append(batch);
-        drop(shared.exchange(&mut pass.seat, at, Slot::Book(book)));
+        drop(shared.exchange(&mut pass.seat, home, Slot::Book(book)));
         shared.fetch_add::<Publish>(&mut pass.seat, at, 1);
         pass.seat.turn();
         pass.published = true;
@@ -208,8 +212,10 @@ impl CoreTable {
     {
         self.laws_hold();
         let shared = &self.table.shared;
-        let at = self.layout().flag();
-        drop(shared.exchange(&mut pass.seat, at, Slot::Shop(shop)));
+        let layout = self.layout();
+        let at = layout.flag();
+        let home = layout.shop_slot();
+        drop(shared.exchange(&mut pass.seat, home, Slot::Shop(shop)));
         shared.store::<ReleaseShop>(&mut pass.seat, at, 0);
     }
 
@@ -224,9 +230,11 @@ impl CoreTable {
     {
         self.laws_hold();
         let shared = &self.table.shared;
-        let at = self.layout().flag();
+        let layout = self.layout();
+        let at = layout.flag();
+        let home = layout.shop_slot();
         pass.seat.turn();
-        drop(shared.exchange(&mut pass.seat, at, Slot::Shop(shop)));
+        drop(shared.exchange(&mut pass.seat, home, Slot::Shop(shop)));
         shared.store::<ReleaseBoth>(&mut pass.seat, at, 0);
     }
 }

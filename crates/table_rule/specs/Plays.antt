@@ -15,7 +15,7 @@ use Rattle.table_rule.specs.declared.view.HoldView.{HoldView}
 use Rattle.table_rule.specs.declared.view.Miss.{Miss}
 use Rattle.table_rule.specs.declared.view.PassView.{PassView}
 use Rattle.table_rule.specs.declared.view.View.{View}
-use Rattle.table_rule.specs.Words.{flag_at, count_at, stop_at, node_at, value_at}
+use Rattle.table_rule.specs.Words.{flag_at, count_at, stop_at, node_at, value_at, shop_at, book_at}
 use Rattle.table_rule.specs.Batches.{IsPublishDue}
 use Rattle.core_model.specs.Entries.{StandsAt}
 use Rattle.table_rule.specs.Shows.{record_in, entry_of, reserved, IsPrefix}
@@ -116,7 +116,7 @@ posted st m r n =
 abbrev pub won : Play
 won st m r n =
     (r ≡ 0 → (m.0.own.hold ≡ None) × (book : List (List Entry))
-    × (n ≡ (with_step (winning book) m.0, (st.word, Slots.Shop book) ∷ (st.word + 1, Slots.Book (reserved book m.0.room)) ∷ m.1))
+    × (n ≡ (with_step (winning book) m.0, (shop_at m.0.workers, Slots.Shop book) ∷ (book_at m.0.workers, Slots.Book (reserved book m.0.room)) ∷ m.1))
     × IsPrefix m.0.own.book_seen book)
     × (r ≢ 0 → missed refusing_win st m r n) × (st.word ≡ flag_at m.0.workers)
 
@@ -148,7 +148,7 @@ admitted st m r n =
 abbrev pub published : Play
 published st m r n =
     (h : HoldView) (batch : List Entry) → m.0.own.hold ≡ Some h
-    → m.1 ≡ (st.word, Slots.Book (reserved (h.book ++ batch ∷ []) m.0.room)) ∷ rest m.1
+    → m.1 ≡ (book_at m.0.workers, Slots.Book (reserved (h.book ++ batch ∷ []) m.0.room)) ∷ rest m.1
     → n ≡ (with_step (publishing batch) m.0, rest m.1)
 
 -- the worker's record slot returns to the table, with the receipt

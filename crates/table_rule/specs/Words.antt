@@ -4,32 +4,40 @@ use Rattle.table_rule.specs.CoreWords.{Progress, Waiting, Ready, Taken, Done, Ra
 use Rattle.core_model.specs.State.{Hold}
 
 -- The layout: the workers' statuses, the flag, the number of batches, the tick, the stop word, then three blocks with a
--- word for each node: its progress, its join mark (the number of sides that have arrived), and its value.
+-- word for each node: its progress, its join mark (the number of sides that have arrived), and its value. All workers
+-- write the four single words. So each stands eight words or more from every other word that is used, and has a cache
+-- line of 64 bytes to itself. The words between say nothing, and no step changes them.
 abbrev pub flag_at : ℕ → ℕ
-flag_at workers = workers
+flag_at workers = workers + 8
 
 abbrev pub count_at : ℕ → ℕ
-count_at workers = workers + 1
+count_at workers = workers + 16
 
 abbrev pub tick_at : ℕ → ℕ
-tick_at workers = workers + 2
+tick_at workers = workers + 24
 
 abbrev pub stop_at : ℕ → ℕ
-stop_at workers = workers + 3
+stop_at workers = workers + 32
 
 abbrev pub node_at : ℕ → ℕ → ℕ
-node_at workers n = workers + 4 + n
+node_at workers n = workers + 40 + n
 
 abbrev pub mark_at : ℕ → ℕ → ℕ → ℕ
-mark_at workers nodes n = workers + 4 + nodes + n
+mark_at workers nodes n = workers + 40 + nodes + n
 
 abbrev pub value_at : ℕ → ℕ → ℕ → ℕ
-value_at workers nodes n = workers + 4 + nodes + nodes + n
+value_at workers nodes n = workers + 40 + nodes + nodes + n
 
 abbrev pub word_count : ℕ → ℕ → ℕ
-word_count workers nodes = workers + 4 + nodes + nodes + nodes
+word_count workers nodes = workers + 40 + nodes + nodes + nodes
 
--- the workers' record slots, the shop's slot, and the book's
+-- the slots: the workers' record slots, the shop's, and the book's
+abbrev pub shop_at : ℕ → ℕ
+shop_at workers = workers
+
+abbrev pub book_at : ℕ → ℕ
+book_at workers = workers + 1
+
 abbrev pub slot_count : ℕ → ℕ
 slot_count workers = workers + 2
 

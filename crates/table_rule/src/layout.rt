@@ -1,12 +1,12 @@
-//! The layout of a table: where each of its words stands. `specs/Words.antt` has the same places.
+//! The layout of a table: where each of its words and slots stands. `specs/Words.antt` has the same places.
 //!
-//! A worker's status stands at its number. A slot has the number of the word that its content goes with: a worker's
-//! record slot that of its status, the shop's that of the flag, and the book's that of the batch count.
+//! A worker's status and its record slot stand at its number. The flag, the batch count, the tick and the stop word,
+//! which all workers write, each have a cache line to themselves.
 ghost use Rattle.std.specs.Prelude.{◌≡◌};
-ghost use Rattle.table_rule.specs.Words.{flag_at, count_at, tick_at, stop_at, node_at, mark_at, value_at, word_count, slot_count};
+ghost use Rattle.table_rule.specs.Words.{flag_at, count_at, tick_at, stop_at, node_at, mark_at, value_at, word_count, shop_at, book_at, slot_count};
 
-/// The words between the statuses and the words of the nodes: the flag, the batch count, the tick and the stop word.
-const SINGLE_WORDS: usize = 4;
+/// The words of a cache line. Two words so far apart never share one, wherever the first word of the table lies.
+const LINE: usize = 8;
 
 /// The slots behind the record slots: the shop's and the book's.
 const SINGLE_SLOTS: usize = 2;
@@ -26,8 +26,7 @@ impl Layout {
     pub fn word_count(self) -> usize
         ensures { result ≡ word_count self.workers self.nodes }
     {
-        let nodes = self.nodes as usize;
-        self.workers as usize + SINGLE_WORDS + nodes + nodes + nodes
+        self.value(0) + self.nodes as usize
     }
 
     /// The number of slots.
@@ -37,39 +36,53 @@ impl Layout {
         self.workers as usize + SINGLE_SLOTS
     }
 
-    /// The flag's word, and the shop's slot.
-    pub fn flag(self) -> usize
-        ensures { result ≡ flag_at self.workers }
+    /// The shop's slot.
+    pub fn shop_slot(self) -> usize
+        ensures { result ≡ shop_at self.workers }
     {
         self.workers as usize
     }
 
-    /// The word of the number of published batches, and the book's slot.
+    /// The book's slot.
+    pub fn book_slot(self) -> usize
+        ensures { result ≡ book_at self.workers }
+    {
+        self.workers as usize + 1
+    }
+
+    /// The flag's word.
+    pub fn flag(self) -> usize
+        ensures { result ≡ flag_at self.workers }
+    {
+        self.workers as usize + LINE
+    }
+
+    /// The word of the number of published batches.
     pub fn batch_count(self) -> usize
         ensures { result ≡ count_at self.workers }
     {
-        self.workers as usize + 1
+        self.workers as usize + 2 * LINE
     }
 
     /// The word of the next tick.
     pub fn tick(self) -> usize
         ensures { result ≡ tick_at self.workers }
     {
-        self.workers as usize + 2
+        self.workers as usize + 3 * LINE
     }
 
     /// The stop word.
     pub fn stop(self) -> usize
         ensures { result ≡ stop_at self.workers }
     {
-        self.workers as usize + 3
+        self.workers as usize + 4 * LINE
     }
 
     /// The word of a node's progress.
     pub fn node(self, node: u32) -> usize
         ensures { result ≡ node_at self.workers node }
     {
-        self.workers as usize + SINGLE_WORDS + node as usize
+        self.workers as usize + 5 * LINE + node as usize
     }
 
     /// The word of a block's mark, which counts the sides that have arrived.

@@ -38,7 +38,7 @@ use Rattle.table_rule.specs.declared.view.HoldView.{HoldView}
 use Rattle.table_rule.specs.declared.view.View.{View}
 use Rattle.table_rule.specs.declared.slot.Slot.{Slot}
 use Rattle.table_rule.specs.declared.slot.Slot.TheVariants as Slots
-use Rattle.table_rule.specs.Words.{stop_at, flag_at, status_code, flag_code, WordsShow}
+use Rattle.table_rule.specs.Words.{stop_at, flag_at, shop_at, book_at, status_code, flag_code, WordsShow}
 use Rattle.table_rule.specs.Laws.{Laws}
 use Rattle.table_rule.specs.Steps.{ShowsOne, StepRefines, TryMakes, MakesEvent, MakesLeave}
 use Rattle.table_rule.specs.Tasks.{job_seen}
@@ -266,10 +266,10 @@ module _ (job : CoreJob) (room : ℕ) (laws : Laws job) (slots id : ℕ) (v : Vi
   pub wins : v.workers ≡ P → v.own.call ≡ Out → v.room ≡ room → job_seen v ≡ job → StepRefines job room slots id (v, xs) (flag_at P) (λ y. either (eqb y 0) (k + 1) y) (G.won (step slots (flag_at P) 0 (k + 1) none) (v, xs)) (TryMakes 0 (MakesEvent job k Win))
   wins sized out roomy seen t o wide me fits =
       let s = o.state in
-      let miss = miss_of job room t o v P in
-      let word = get_or t.words P 0 in
+      let miss = miss_of job room t o v (flag_at P) in
+      let word = get_or t.words (flag_at P) 0 in
       let m = mine_of job room t o id k v me from to in
-      exchanged word 0 (k + 1) (λ y. (w : View) × (a : Act Slot) × Valid t.homes xs a × ShowsOne job room (TryMakes 0 (MakesEvent job k Win) s word) (stepped t P y id xs w a) × G.won (step slots P 0 (k + 1) none) (v, xs) word (w, carried_after xs a))
+      exchanged word 0 (k + 1) (λ y. (w : View) × (a : Act Slot) × Valid t.homes xs a × ShowsOne job room (TryMakes 0 (MakesEvent job k Win) s word) (stepped t (flag_at P) y id xs w a) × G.won (step slots (flag_at P) 0 (k + 1) none) (v, xs) word (w, carried_after xs a))
       (λ zero.
       let open_ : s.hold ≡ None = free_flag s.hold (sym o.words.flag ∙ zero) in
       let shop = subst (λ (h : Maybe Hold). ShopAt h s.book (get_elem? t.homes P)) open_ o.slots.shop in
@@ -284,7 +284,7 @@ module _ (job : CoreJob) (room : ℕ) (laws : Laws job) (slots id : ℕ) (v : Vi
         w,
         chain (takes (P + 1) (Slots.Book (reserved s.book room))) (takes P (Slots.Shop s.book)),
         (book, set_else t.homes (P + 1) P none (λ e. omega arith) ∙ shop),
-        found word 0 (MakesEvent job k Win) zero (moved job room laws t o id k v w (set t.words P (k + 1)) homes Win new happens me from to from to [] record { events = refl; stops = refl; found = refl; misses = refl; stopped = refl } tt (get_or-set_other t.words (P) (stop_at P) (k + 1) 0 (λ e. omega arith))
+        found word 0 (MakesEvent job k Win) zero (moved job room laws t o id k v w (set t.words (flag_at P) (k + 1)) homes Win new happens me from to from to [] record { events = refl; stops = refl; found = refl; misses = refl; stopped = refl } tt (get_or-set_other t.words (flag_at P) (stop_at P) (k + 1) 0 (λ e. omega arith))
             (set_flag P N t.words s.node s.mark s.value s.status s.hold s.tick (length s.book) o.words (Some h))
             record {
               wide = length-set (set t.homes (P + 1) none) P none ∙ (length-set t.homes (P + 1) none ∙ o.slots.wide);
@@ -297,16 +297,16 @@ module _ (job : CoreJob) (room : ℕ) (laws : Laws job) (slots id : ℕ) (v : Vi
             (refl, refl, (λ u call is yet. absurd (cc)), tt) own)
             (λ i x u low ne other. through job laws s new k x Win u u (get_elem? t.homes x) (get_elem? homes x) (o.seat x) i o.parts happens refl refl refl (λ d. d)
             (λ e _. far x low ∙ e) (told_again u) (hold_won job s new k x h ne open_ refl refl u.own.hold other.hold) other)),
-        ((λ _. (none_held job s k v.own.hold m.1.hold open_, s.book, ap (λ (r : ℕ). (V.with_step (W.winning s.book) v, (P, Slots.Shop s.book) ∷ (P + 1, Slots.Book (reserved s.book r)) ∷ xs)) (sym roomy), m.1.seen)), (λ ne. absurd (ne zero)), ap flag_at (sym sized)),
+        ((λ _. (none_held job s k v.own.hold m.1.hold open_, s.book, (λ i. (V.with_step (W.winning s.book) v, (shop_at (sym sized i), Slots.Shop s.book) ∷ (book_at (sym sized i), Slots.Book (reserved s.book (sym roomy i))) ∷ xs)), m.1.seen)), (λ ne. absurd (ne zero)), ap flag_at (sym sized)),
       ))
       (λ ne. (
         V.with_miss miss W.refusing_win v,
         keeps,
         tt,
-        missed word 0 (MakesEvent job k Win) ne (looked job room t o id k P v (V.with_miss miss W.refusing_win v) me from to from to refl refl (λ h. inl h) (miss ∷ []) refl refl
-            (noted_at job room t o id k v me from to P (λ e. omega arith))
+        missed word 0 (MakesEvent job k Win) ne (looked job room t o id k (flag_at P) v (V.with_miss miss W.refusing_win v) me from to from to refl refl (λ h. inl h) (miss ∷ []) refl refl
+            (noted_at job room t o id k v me from to (flag_at P) (λ e. omega arith))
             (λ own. record { sits = own.sits; task = own.task; call = own.call; posted = own.posted; told = own.told; entries = own.entries; hold = own.hold; new = own.new; done = own.done; seen = own.seen; since = record { most = own.since.most; early = own.since.early; late = own.since.late; placed = own.since.placed; waits = own.since.waits } })),
-        ((λ zero. absurd (ne zero)), (λ _. (miss, miss_seen job room t o id k v me from to seen roomy P, refl, refl)), ap flag_at (sym sized)),
+        ((λ zero. absurd (ne zero)), (λ _. (miss, miss_seen job room t o id k v me from to seen roomy (flag_at P), refl, refl)), ap flag_at (sym sized)),
       ))
 
   -- a trapped pass without the flag tries to leave
@@ -545,7 +545,7 @@ module _ (job : CoreJob) (room : ℕ) (laws : Laws job) (slots id : ℕ) (v : Vi
       (hold_gone job s new k x (hold_of k h) ne held refl refl y.own.hold other.hold) other)
 
   pub releases_shop : (h : HoldView) (shop : List (List Entry)) → v.own.hold ≡ Some h → h.looks ≡ job.workers → h.published ≡ true → ((u : ℕ) → took_in h.taken u ≡ true → among h.answered u ≡ true) → shop ≡ h.book
-      → StepRefines job room slots id (v, (flag_at P, Slots.Shop shop) ∷ xs) (flag_at P) (λ y. 0) (λ y. G.released_shop (step slots (flag_at P) 0 0 none) (v, (flag_at P, Slots.Shop shop) ∷ xs) 0) (MakesEvent job k (Release))
+      → StepRefines job room slots id (v, (shop_at P, Slots.Shop shop) ∷ xs) (flag_at P) (λ y. 0) (λ y. G.released_shop (step slots (flag_at P) 0 0 none) (v, (shop_at P, Slots.Shop shop) ∷ xs) 0) (MakesEvent job k (Release))
   releases_shop h shop holds looked_all there all whole t o wide me fits =
       let s = o.state in
       let known = holding t o h me holds in
@@ -563,8 +563,8 @@ module _ (job : CoreJob) (room : ℕ) (laws : Laws job) (slots id : ℕ) (v : Vi
       )
 
   pub releases_both : (h : HoldView) (shop : List (List Entry)) → v.own.hold ≡ Some h → h.looks ≡ job.workers → ((u : ℕ) → took_in h.taken u ≡ true → among h.answered u ≡ true) → shop ≡ h.book
-      → StepRefines job room slots id (v, (flag_at P, Slots.Shop shop) ∷ (flag_at P + 1, Slots.Book (reserved h.book room)) ∷ xs) (flag_at P) (λ y. 0)
-      (λ y. G.released_both (step slots (flag_at P) 0 0 none) (v, (flag_at P, Slots.Shop shop) ∷ (flag_at P + 1, Slots.Book (reserved h.book room)) ∷ xs) 0) (MakesEvent job k (Release))
+      → StepRefines job room slots id (v, (shop_at P, Slots.Shop shop) ∷ (book_at P, Slots.Book (reserved h.book room)) ∷ xs) (flag_at P) (λ y. 0)
+      (λ y. G.released_both (step slots (flag_at P) 0 0 none) (v, (shop_at P, Slots.Shop shop) ∷ (book_at P, Slots.Book (reserved h.book room)) ∷ xs) 0) (MakesEvent job k (Release))
   releases_both h shop holds looked_all all whole t o wide me fits =
       let s = o.state in
       let known = holding t o h me holds in
@@ -587,10 +587,10 @@ module _ (job : CoreJob) (room : ℕ) (laws : Laws job) (slots id : ℕ) (v : Vi
       → StepRefines job room slots id m u (λ y. 3) (λ y. G.answered (step slots u 3 0 none) m 3) (MakesEvent job k (Answer u r))
   answers_at m h u call r e holds there is yet receipt = subst (λ (m : G.SeatState). StepRefines job room slots id m u (λ y. 3) (λ y. G.answered (step slots u 3 0 none) m 3) (MakesEvent job k (Answer u r))) (sym e) (answers h u call r holds there is yet receipt)
 
-  pub releases_shop_at : (m : G.SeatState) (h : HoldView) (shop : List (List Entry)) → m ≡ (v, (flag_at P, Slots.Shop shop) ∷ xs) → v.own.hold ≡ Some h → h.looks ≡ job.workers → h.published ≡ true → ((u : ℕ) → took_in h.taken u ≡ true → among h.answered u ≡ true) → shop ≡ h.book
+  pub releases_shop_at : (m : G.SeatState) (h : HoldView) (shop : List (List Entry)) → m ≡ (v, (shop_at P, Slots.Shop shop) ∷ xs) → v.own.hold ≡ Some h → h.looks ≡ job.workers → h.published ≡ true → ((u : ℕ) → took_in h.taken u ≡ true → among h.answered u ≡ true) → shop ≡ h.book
       → StepRefines job room slots id m (flag_at P) (λ y. 0) (λ y. G.released_shop (step slots (flag_at P) 0 0 none) m 0) (MakesEvent job k (Release))
   releases_shop_at m h shop e holds looked_all there all whole = subst (λ (m : G.SeatState). StepRefines job room slots id m (flag_at P) (λ y. 0) (λ y. G.released_shop (step slots (flag_at P) 0 0 none) m 0) (MakesEvent job k (Release))) (sym e) (releases_shop h shop holds looked_all there all whole)
 
-  pub releases_both_at : (m : G.SeatState) (h : HoldView) (shop : List (List Entry)) → m ≡ (v, (flag_at P, Slots.Shop shop) ∷ (flag_at P + 1, Slots.Book (reserved h.book room)) ∷ xs) → v.own.hold ≡ Some h → h.looks ≡ job.workers → ((u : ℕ) → took_in h.taken u ≡ true → among h.answered u ≡ true) → shop ≡ h.book
+  pub releases_both_at : (m : G.SeatState) (h : HoldView) (shop : List (List Entry)) → m ≡ (v, (shop_at P, Slots.Shop shop) ∷ (book_at P, Slots.Book (reserved h.book room)) ∷ xs) → v.own.hold ≡ Some h → h.looks ≡ job.workers → ((u : ℕ) → took_in h.taken u ≡ true → among h.answered u ≡ true) → shop ≡ h.book
       → StepRefines job room slots id m (flag_at P) (λ y. 0) (λ y. G.released_both (step slots (flag_at P) 0 0 none) m 0) (MakesEvent job k (Release))
   releases_both_at m h shop e holds looked_all all whole = subst (λ (m : G.SeatState). StepRefines job room slots id m (flag_at P) (λ y. 0) (λ y. G.released_both (step slots (flag_at P) 0 0 none) m 0) (MakesEvent job k (Release))) (sym e) (releases_both h shop holds looked_all all whole)

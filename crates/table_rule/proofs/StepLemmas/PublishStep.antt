@@ -25,7 +25,7 @@ use Rattle.table_rule.specs.declared.view.HoldView.{HoldView}
 use Rattle.table_rule.specs.declared.view.View.{View}
 use Rattle.table_rule.specs.declared.slot.Slot.{Slot}
 use Rattle.table_rule.specs.declared.slot.Slot.TheVariants as Slots
-use Rattle.table_rule.specs.Words.{stop_at, count_at, WordsShow}
+use Rattle.table_rule.specs.Words.{stop_at, count_at, book_at, WordsShow}
 use Rattle.table_rule.specs.Laws.{Laws}
 use Rattle.table_rule.specs.Steps.{StepRefines, Stutters, MakesEvent}
 use Rattle.table_rule.specs.Shows.{reserved, SlotHome, IsRecordOf, RecordAt, ShopAt, record_in, among, hold_of, HoldKnown, entry_of, present, SinceKnown, IsPrefix, AgreesWithView}
@@ -184,8 +184,8 @@ module _ (job : CoreJob) (room : ℕ) (laws : Laws job) (slots id : ℕ) (v : Vi
   abbrev N : ℕ
   N = job.plan.count
 
-  same_book : (a b : List (List Entry)) (r : ℕ) → (count_at P, Slots.Book (reserved a r)) ∷ xs ≡ (count_at P, Slots.Book (reserved b r)) ∷ xs → a ≡ b
-  same_book a b r e = batches_same a b r (ap (λ (l : List (ℕ × Slot)). (get_or l 0 (count_at P, Slots.Book (reserved a r))).1) e)
+  same_book : (i j : ℕ) (a b : List (List Entry)) (r : ℕ) → (i, Slots.Book (reserved a r)) ∷ xs ≡ (j, Slots.Book (reserved b r)) ∷ xs → a ≡ b
+  same_book i j a b r e = batches_same a b r (ap (λ (l : List (ℕ × Slot)). (get_or l 0 (i, Slots.Book (reserved a r))).1) e)
 
   last_same : (xs ys : List (List Entry)) (a b : List Entry) → xs ++ a ∷ [] ≡ ys ++ b ∷ [] → xs ≡ ys → a ≡ b
   last_same [] [] a b e f = cc
@@ -229,8 +229,8 @@ module _ (job : CoreJob) (room : ℕ) (laws : Laws job) (slots id : ℕ) (v : Vi
       )
 
   pub publishes : (h : HoldView) (batch : List Entry) → v.own.hold ≡ Some h → v.room ≡ room → IsPublishDue job.workers h batch
-      → StepRefines job room slots id (v, (count_at P, Slots.Book (reserved (h.book ++ batch ∷ []) room)) ∷ xs) (count_at P) (λ y. (y + 1) % 2 ^ 64)
-      (G.published (step slots (count_at P) 1 0 none) (v, (count_at P, Slots.Book (reserved (h.book ++ batch ∷ []) room)) ∷ xs)) (MakesEvent job k Publish)
+      → StepRefines job room slots id (v, (book_at P, Slots.Book (reserved (h.book ++ batch ∷ []) room)) ∷ xs) (count_at P) (λ y. (y + 1) % 2 ^ 64)
+      (G.published (step slots (count_at P) 1 0 none) (v, (book_at P, Slots.Book (reserved (h.book ++ batch ∷ []) room)) ∷ xs)) (MakesEvent job k Publish)
   publishes h batch holds roomy due t o wide me fits =
       let s = o.state in
       let book = reserved (h.book ++ batch ∷ []) room in
@@ -249,7 +249,7 @@ module _ (job : CoreJob) (room : ℕ) (laws : Laws job) (slots id : ℕ) (v : Vi
       let long : length (s.book ++ batch ∷ []) ≡ length s.book + 1 = length-append s.book (batch ∷ []) in
       let few : length s.book < 40000 = few_batches job laws s o.parts in
       let count : (word + 1) % 2 ^ 64 ≡ length (s.book ++ batch ∷ []) = omega (arith, long, o.words.batches, few) in
-      let homes = set t.homes (count_at P) (some (Slots.Book book)) in
+      let homes = set t.homes (book_at P) (some (Slots.Book book)) in
       let far : (x : ℕ) → x < P → get_elem? homes x ≡ get_elem? t.homes x = λ x low. set_else t.homes (P + 1) x (some (Slots.Book book)) (λ e. omega arith) in (
         w,
         gives,
@@ -271,13 +271,13 @@ module _ (job : CoreJob) (room : ℕ) (laws : Laws job) (slots id : ℕ) (v : Vi
             (hold_others job s new k x hd (hold_of k h') ne held refl hold_new refl y.own.hold other.hold) other),
         λ g c is at.
             let same_view : h ≡ g = (let e = sym holds ∙ is in cc) in
-            let at' = subst (λ (r : ℕ). (count_at P, Slots.Book book) ∷ xs ≡ (count_at P, Slots.Book (reserved (g.book ++ c ∷ []) r)) ∷ xs) roomy at in
-            let b' = same_book (h.book ++ batch ∷ []) (g.book ++ c ∷ []) room at' in
+            let at' = subst (λ (r : ℕ). (book_at P, Slots.Book book) ∷ xs ≡ (book_at v.workers, Slots.Book (reserved (g.book ++ c ∷ []) r)) ∷ xs) roomy at in
+            let b' = same_book (book_at P) (book_at v.workers) (h.book ++ batch ∷ []) (g.book ++ c ∷ []) room at' in
             let c' : batch ≡ c = last_same h.book g.book batch c b' (ap (λ (z : HoldView). z.book) same_view) in
             λ i. (V.with_step (W.publishing (c' i)) v, xs),
       )
 
-  pub publishes_at : (g : G.SeatState) (h : HoldView) (batch : List Entry) → g ≡ (v, (count_at P, Slots.Book (reserved (h.book ++ batch ∷ []) room)) ∷ xs) → v.own.hold ≡ Some h → v.room ≡ room → IsPublishDue job.workers h batch
+  pub publishes_at : (g : G.SeatState) (h : HoldView) (batch : List Entry) → g ≡ (v, (book_at P, Slots.Book (reserved (h.book ++ batch ∷ []) room)) ∷ xs) → v.own.hold ≡ Some h → v.room ≡ room → IsPublishDue job.workers h batch
       → StepRefines job room slots id g (count_at P) (λ y. (y + 1) % 2 ^ 64) (G.published (step slots (count_at P) 1 0 none) g) (MakesEvent job k Publish)
   publishes_at g h batch e holds roomy due =
       subst (λ (g : G.SeatState). StepRefines job room slots id g (count_at P) (λ y. (y + 1) % 2 ^ 64) (G.published (step slots (count_at P) 1 0 none) g) (MakesEvent job k Publish)) (sym e) (publishes h batch holds roomy due)

@@ -14,7 +14,7 @@ use Rattle.core_model.specs.State.{put, CoreJob, Hold, State, opening_state}
 use Rattle.table_rule.specs.declared.view.View.{View}
 use Rattle.table_rule.specs.declared.slot.Slot.{Slot}
 use Rattle.table_rule.specs.declared.slot.Slot.TheVariants as Slots
-use Rattle.table_rule.specs.Words.{node_at, word_count, WordsShow}
+use Rattle.table_rule.specs.Words.{flag_at, count_at, tick_at, node_at, mark_at, word_count, WordsShow}
 use Rattle.table_rule.specs.Laws.{Laws}
 use Rattle.batch_history.specs.declared.batch.Entry.{Entry}
 use Rattle.batch_history.specs.Reserved.{ReservedView}
@@ -274,16 +274,16 @@ only : (u v : View) (i : ℕ) → get_elem? (v ∷ []) i ≡ some u → (0 ≡ i
 only u v zero e = (refl, some-injective _ _ e)
 only u v (suc i) e = absurd (some-ne-none u (sym e))
 
-blank : (P N : ℕ) → let none_held : Maybe Hold = None in WordsShow P N (replicate (P + 4 + N + N + N) 0) (λ n. Waiting) (λ n. 0) (λ n. None) (λ w. Free) none_held 0 0
+blank : (P N : ℕ) → let none_held : Maybe Hold = None in WordsShow P N (replicate (word_count P N) 0) (λ n. Waiting) (λ n. 0) (λ n. None) (λ w. Free) none_held 0 0
 blank P N =
-    let total = P + 4 + N + N + N in record {
+    let total = word_count P N in record {
       wide = length-replicate total 0;
       statuses = λ w low. zeros total w;
-      flag = zeros total P;
-      batches = zeros total (P + 1);
-      ticks = zeros total (P + 2);
-      progress = λ n low. zeros total (P + 4 + n);
-      marks = λ n low. zeros total (P + 4 + N + n);
+      flag = zeros total (flag_at P);
+      batches = zeros total (count_at P);
+      ticks = zeros total (tick_at P);
+      progress = λ n low. zeros total (node_at P n);
+      marks = λ n low. zeros total (mark_at P N n);
       values = λ n low. tt;
     }
 
@@ -300,7 +300,7 @@ starts job room given laws words are =
       seat = λ w. 0;
       parts = laws.opening;
       words = let none_held : Maybe Hold = None in subst (λ (ws : List ℕ). WordsShow P N ws (put (λ n. Waiting) 0 Ready) (λ n. 0) (λ n. None) (λ w. Free) none_held 0 0) (sym are)
-          (set_node P N (replicate (P + 4 + N + N + N) 0) (λ n. Waiting) (λ n. 0) (λ n. None) (λ w. Free) none_held 0 0 (blank P N) 0 Ready laws.root);
+          (set_node P N (replicate (word_count P N) 0) (λ n. Waiting) (λ n. 0) (λ n. None) (λ w. Free) none_held 0 0 (blank P N) 0 Ready laws.root);
       slots = record {
         wide = length-map slots some ∙ (length-append (replicate P Slots.Vacant) (Slots.Shop shop ∷ Slots.Book book ∷ []) ∙ ap (λ (m : ℕ). m + 2) (length-replicate P Slots.Vacant));
         records = λ w low. tt;
@@ -331,7 +331,7 @@ starts job room given laws words are =
       events = λ i u w e lo hi. ap (λ (y : View). y.own.events) (only u (newcomer given P N room) i e).1;
       misses = λ i u w e lo hi. subst (λ (y : View). AllByRecursion (IsTrueIn job w []) y.misses × AreInOrder y.misses) (only u (newcomer given P N room) i e).1 (tt, tt);
       stop = let unset : get_or words (stop_at P) 0 ≡ 0 = ap (λ (ws : List ℕ). get_or ws (stop_at P) 0) are
-          ∙ (get_or-set_other (replicate (P + 4 + N + N + N) 0) (node_at P 0) (stop_at P) 1 0 (λ e. omega arith) ∙ zeros (P + 4 + N + N + N) (stop_at P)) in record {
+          ∙ (get_or-set_other (replicate (word_count P N) 0) (node_at P 0) (stop_at P) 1 0 (λ e. omega arith) ∙ zeros (word_count P N) (stop_at P)) in record {
             known = inl unset;
             set = λ i u e some_stops. let same = ap (λ (y : View). y.own.stops) (only u (newcomer given P N room) i e).1 in absurd (omega (arith, same, some_stops));
             by = λ one. absurd (omega (arith, one, unset));

@@ -19,7 +19,7 @@ unreachable-requires c =
     let self = c.args.self in let pass = c.args.pass in let job = job_of self.setting in let tree = job_tree self.setting.job in let plan = nodes_of tree in
     let laws = c.laws_hold.ensures self.setting refl in
     let f = rw self.key.0 at c.close_with-closed.ensures.values.2 in
-    let taken = rw (c.batch_count-at.ensures, c.layout-layout.ensures.workers) at c.take-last.ensures.value in
+    let taken = rw (c.book_slot-at.ensures, c.layout-layout.ensures.workers) at c.take-last.ensures.value in
     let last = closes job (room_of self.setting) _ pass.worker laws pass.seat.me.0 _ _ f pass.number.0 pass.number.1 c.requires.saw in
     c.in_default.not-Book (reserved last.state.book (room_of self.setting)) (sym (some-injective _ _ (sym last.there ∙ taken)))
 
@@ -28,7 +28,7 @@ returns c =
     let self = c.args.self in let pass = c.args.pass in let job = job_of self.setting in let tree = job_tree self.setting.job in let plan = nodes_of tree in
     let laws = c.laws_hold.ensures self.setting refl in
     let f = rw self.key.0 at c.close_with-closed.ensures.values.2 in
-    let taken = rw (c.batch_count-at.ensures, c.layout-layout.ensures.workers) at c.take-last.ensures.value in
+    let taken = rw (c.book_slot-at.ensures, c.layout-layout.ensures.workers) at c.take-last.ensures.value in
     let stands = c.plan_stands_for_tree.ensures tree in
     let total : c.leaf_total-leaf_total.result ≡ leaves tree = c.leaf_total-leaf_total.ensures in
     let inside : (leaf : ℕ) → leaf < leaves tree → plan.node_of leaf < plan.count = λ leaf low. leaf_in plan leaf laws.plan ((c.leaf_has_one_node.ensures plan tree stands leaf (plan.node_of leaf) low).1 refl) in
@@ -51,8 +51,8 @@ pub drop_slots-requires : goal.drop_slots-requires
 drop_slots-requires c =
     let self = c.args.self in
     let (items, filled, long, words) = c.take-last.ensures.others in
-    let at = c.batch_count-at.result in
-    let total : slots_len c.take-last.new.self.slots ≡ at + 1 = long ∙ (c.close_with-closed.ensures.counts.1 ∙ omega (arith, self.sized.1, c.batch_count-at.ensures, c.layout-layout.ensures.workers)) in (
+    let at = c.book_slot-at.result in
+    let total : slots_len c.take-last.new.self.slots ≡ at + 1 = long ∙ (c.close_with-closed.ensures.counts.1 ∙ omega (arith, self.sized.1, c.book_slot-at.ensures, c.layout-layout.ensures.workers)) in (
       omega (arith, total),
       last_taken (slots_filled c.close_with-closed.result.slots) _ at _ filled total (λ k some low. c.close_with-closed.ensures.values.1 k some (omega (arith, low, long))),
     )

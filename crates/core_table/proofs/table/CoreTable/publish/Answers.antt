@@ -8,6 +8,7 @@ use Rattle.table_rule.specs.Batches.{IsPublishDue}
 use Rattle.table_rule.specs.HoldsSlots.{vacant}
 use Rattle.table_rule.specs.Plays.{SeatState}
 use Rattle.table_rule.specs.Shows.{reserved, room_of, job_of}
+use Rattle.table_rule.specs.Words.{count_at, book_at}
 use Rattle.table_rule.specs.Passes.{in_hold, after_publish, publishing}
 use Rattle.table_rule.specs.Views.{with_step}
 use Rattle.core_table.proofs.PassLemmas.PassKept.{held_out, looks_at, looks_after, pass_made, first, swapped, turned_to, carries_published, holder_list, found_book, books}
@@ -24,33 +25,36 @@ abbrev behind : After-load → List (ℕ × Slot)
 behind c = (c.args.self.now.setting.workers, Slots.Vacant) ∷ vacant c.requires.due.0.owed
 
 -- the seat once it has looked at the count of batches
-looked : (c : After-load) → c.load.new.seat.me ≡ (c.args.pass.now.seat.me.0, (c.batch_count-at.result, Slots.Book (book c)) ∷ behind c)
+looked : (c : After-load) → c.load.new.seat.me ≡ (c.args.pass.now.seat.me.0, (c.book_slot-home.result, Slots.Book (book c)) ∷ behind c)
 looked c =
     let self = c.args.self.now in let pass = c.args.pass.now in let old = pass.seat in let workers = self.setting.workers in
     let h = c.requires.due.0 in let due = c.requires.due.2 in
-    let place = c.batch_count-at.ensures ∙ ap (λ (n : ℕ). n + 1) c.layout.ensures.workers in
+    let place = c.book_slot-home.ensures ∙ ap book_at c.layout-layout.ensures.workers in
     c.load.ensures.2.0 ∙ (holder_list pass.worker workers (room_of self.setting) old.me h c.requires.due.1 due.early c.requires.pass.2 c.requires.pass.6 c.requires.pass.7 ∙ ap (λ (i : ℕ). (old.me.0, (i, Slots.Book (book c)) ∷ behind c)) (sym place))
 
 -- the book that it finds in hand is that of the holder
-same : (c : In-Book) (b : ReservedView) (xs : List (ℕ × Slot)) → c.load.new.seat.me ≡ (c.args.pass.now.seat.me.0, (c.batch_count-at.result, Slots.Book b) ∷ xs) → b ≡ c.in-Book.book
+same : (c : In-Book) (b : ReservedView) (xs : List (ℕ × Slot)) → c.load.new.seat.me ≡ (c.args.pass.now.seat.me.0, (c.book_slot-home.result, Slots.Book b) ∷ xs) → b ≡ c.in-Book.book
 same c b xs is = books b c.in-Book.book (found_book c.load.new.seat.me _ _ c.exchange.result b xs _ is c.exchange.ensures.2 ∙ c.in-Book.is)
 
 -- the seat once the book, with the batch behind it, is put back
-put_back : (c : After-exchange-2) (b : ReservedView) (xs : List (ℕ × Slot)) → c.load.new.seat.me ≡ (c.args.pass.now.seat.me.0, (c.batch_count-at.result, Slots.Book b) ∷ xs) → b ≡ c.in-Book.book
-    → c.exchange-2.new.seat.me ≡ (c.args.pass.now.seat.me.0, (c.batch_count-at.result, Slots.Book (reserved (b.batches ++ c.args.batch ∷ []) b.capacity)) ∷ xs)
+put_back : (c : After-exchange-2) (b : ReservedView) (xs : List (ℕ × Slot)) → c.load.new.seat.me ≡ (c.args.pass.now.seat.me.0, (c.book_slot-home.result, Slots.Book b) ∷ xs) → b ≡ c.in-Book.book
+    → c.exchange-2.new.seat.me ≡ (c.args.pass.now.seat.me.0, (c.book_slot-home.result, Slots.Book (reserved (b.batches ++ c.args.batch ∷ []) b.capacity)) ∷ xs)
 put_back c b xs is found =
-    let v = c.args.pass.now.seat.me.0 in let at = c.batch_count-at.result in
+    let v = c.args.pass.now.seat.me.0 in let at = c.book_slot-home.result in
     swapped c.exchange.new.seat.me c.exchange-2.new.seat.me v at Slots.Vacant (Slots.Book _) xs (swapped c.load.new.seat.me c.exchange.new.seat.me v at (Slots.Book b) Slots.Vacant xs is c.exchange.ensures.3) c.exchange-2.ensures.3
     ∙ ap (λ (r : ReservedView). (v, (at, Slots.Book r) ∷ xs)) (c.append.ensures ∙ ap (λ (r : ReservedView). reserved (r.batches ++ c.args.batch ∷ []) r.capacity) (sym found))
 
 -- the seat once the batch is published, and the slot of the book is behind the others
 published : (c : After-turn) → let h = c.requires.due.0 in let v = c.args.pass.now.seat.me.0 in let workers = c.args.self.now.setting.workers in
-    c.exchange-2.new.seat.me ≡ (v, (c.batch_count-at.result, Slots.Book (reserved (h.book ++ c.args.batch ∷ []) (room_of c.args.self.now.setting))) ∷ (workers, Slots.Vacant) ∷ vacant h.owed)
+    c.exchange-2.new.seat.me ≡ (v, (c.book_slot-home.result, Slots.Book (reserved (h.book ++ c.args.batch ∷ []) (room_of c.args.self.now.setting))) ∷ (workers, Slots.Vacant) ∷ vacant h.owed)
     → c.turn.new.self.me ≡ (with_step (publishing c.args.batch) v, vacant h.owed ++ (workers, Slots.Vacant) ∷ [])
 published c is =
     let pass = c.args.pass.now in let v = pass.seat.me.0 in let h = c.requires.due.0 in let workers = c.args.self.now.setting.workers in
+    let me = c.exchange-2.new.seat.me in
+    let place = c.book_slot-home.ensures ∙ ap book_at c.layout-layout.ensures.workers in
     let told = c.fetch_add.ensures.2 h c.args.batch (ap (λ (m : SeatState). m.0.own.hold) is ∙ c.requires.due.1)
-    (first _ _ _ _ _ is ∙ ap (λ (r : ℕ). (c.batch_count-at.result, Slots.Book (reserved (h.book ++ c.args.batch ∷ []) r)) ∷ rest c.exchange-2.new.seat.me.1) (sym (ap (λ (m : SeatState). m.0.room) is ∙ c.requires.pass.6))) in
+    (first _ _ _ _ _ is ∙ (ap (λ (r : ℕ). (c.book_slot-home.result, Slots.Book (reserved (h.book ++ c.args.batch ∷ []) r)) ∷ rest me.1) (sym (ap (λ (m : SeatState). m.0.room) is ∙ c.requires.pass.6))
+    ∙ ap (λ (i : ℕ). (i, Slots.Book (reserved (h.book ++ c.args.batch ∷ []) me.0.room)) ∷ rest me.1) (place ∙ sym (ap (λ (m : SeatState). book_at m.0.workers) is ∙ ap book_at c.requires.pass.2)))) in
     turned_to _ c.turn.new.self.me (with_step (publishing c.args.batch) v) ((workers, Slots.Vacant) ∷ vacant h.owed) (told ∙ ap (λ (m : SeatState). (with_step (publishing c.args.batch) m.0, rest m.1)) is) c.turn.ensures.2
 
 pub load-requires : goal.load-requires
@@ -58,7 +62,7 @@ load-requires c =
     let self = c.args.self.now in let pass = c.args.pass.now in let job = job_of self.setting in let v = pass.seat.me.0 in
     let laws = c.laws_hold.ensures self.setting refl in (
       c.requires.pass.0,
-      omega (arith, self.sized.0, c.batch_count-at.ensures, c.layout.ensures.workers),
+      omega (arith, self.sized.0, c.batch_count-at.ensures, c.layout-layout.ensures.workers),
       rw self.key.0 (λ a b d e f. let x = (admits job (room_of self.setting) laws _ _ v pass.seat.me.1 pass.worker pass.number.0 pass.number.1 _ c.requires.pass.2 c.requires.pass.6 self.few.1) a b d e f in (x.0, x.1, x.2, x.3.0, x.4)),
     )
 
@@ -66,12 +70,12 @@ pub exchange-requires : goal.exchange-requires
 exchange-requires c =
     let pass = c.args.pass.now in
     let at = (goal.at.exchange-requires c).After-load in
-    (c.load.ensures.0 ∙ c.requires.pass.0, (Slots.Book (book at), first c.load.new.seat.me pass.seat.me.0 c.batch_count-at.result (Slots.Book (book at)) (behind at) (looked at)))
+    (c.load.ensures.0 ∙ c.requires.pass.0, (Slots.Book (book at), first c.load.new.seat.me pass.seat.me.0 c.book_slot-home.result (Slots.Book (book at)) (behind at) (looked at)))
 
 pub unreachable-requires : goal.unreachable-requires
 unreachable-requires c =
     let at = (goal.at.unreachable-requires c).After-load in
-    c.in_default.not-Book (book at) (sym (found_book c.load.new.seat.me c.args.pass.now.seat.me.0 c.batch_count-at.result c.exchange.result (book at) (behind at) _ (looked at) c.exchange.ensures.2))
+    c.in_default.not-Book (book at) (sym (found_book c.load.new.seat.me c.args.pass.now.seat.me.0 c.book_slot-home.result c.exchange.result (book at) (behind at) _ (looked at) c.exchange.ensures.2))
 
 pub append-requires : goal.append-requires
 append-requires c =
@@ -91,11 +95,12 @@ fetch_add-requires c =
     let back = put_back at.After-exchange-2 (book load) (behind load) (looked load) (same at.In-Book (book load) (behind load) (looked load)) in
     let self = c.args.self.now in let pass = c.args.pass.now in let job = job_of self.setting in let v = pass.seat.me.0 in let room = room_of self.setting in
     let h = c.requires.due.0 in
-    let place = c.batch_count-at.ensures ∙ ap (λ (n : ℕ). n + 1) c.layout.ensures.workers in
+    let word = c.batch_count-at.ensures ∙ ap count_at c.layout-layout.ensures.workers in
+    let place = c.book_slot-home.ensures ∙ ap book_at c.layout-layout.ensures.workers in
     let laws = c.laws_hold.ensures self.setting refl in (
       c.exchange-2.ensures.0 ∙ (c.exchange.ensures.0 ∙ (c.load.ensures.0 ∙ c.requires.pass.0)),
-      omega (arith, self.sized.0, place),
-      rw (self.key.0, place) (λ a b d e f. let x = (publishes_at job room laws _ _ v (behind load) pass.worker pass.number.0 pass.number.1 _ h c.args.batch (back ∙ ap (λ (i : ℕ). (v, (i, Slots.Book (reserved (h.book ++ c.args.batch ∷ []) room)) ∷ behind load)) place)
+      omega (arith, self.sized.0, word),
+      rw (self.key.0, word) (λ a b d e f. let x = (publishes_at job room laws _ _ v (behind load) pass.worker pass.number.0 pass.number.1 _ h c.args.batch (back ∙ ap (λ (i : ℕ). (v, (i, Slots.Book (reserved (h.book ++ c.args.batch ∷ []) room)) ∷ behind load)) place)
           c.requires.due.1 c.requires.pass.6 c.requires.due.2) a b d e f in (x.0, x.1, x.2, x.3.0, x.4)),
     )
 

@@ -7,6 +7,7 @@ use Rattle.table_rule.specs.Plays.{SeatState}
 use Rattle.table_rule.specs.Shows.{reserved, room_of, job_of}
 use Rattle.table_rule.specs.Passes.{releasing}
 use Rattle.table_rule.specs.Views.{with_step}
+use Rattle.table_rule.specs.Words.{flag_at}
 use Rattle.core_table.proofs.ListLemmas.Owed.{owes_nobody, remembers_none}
 use Rattle.core_table.proofs.PassLemmas.PassKept.{held_out, pass_made, first, swapped, turned_to, holder_list, carries_released}
 use Rattle.table_rule.proofs.StepLemmas.GateSteps.{releases_both_at}
@@ -21,22 +22,22 @@ owed_to_none : (c : After-turn) → c.requires.due.0.owed ≡ []
 owed_to_none c = owes_nobody c.requires.due.0 (c.requires.pass.8.holds c.requires.due.0 c.requires.due.1).2 c.requires.due.2.answered
 
 -- the seat once the slot of the shop stands in front
-turned : (c : After-turn) → c.turn.new.self.me ≡ (c.args.pass.now.seat.me.0, (c.flag-at.result, Slots.Vacant) ∷ behind c)
+turned : (c : After-turn) → c.turn.new.self.me ≡ (c.args.pass.now.seat.me.0, (c.shop_slot-home.result, Slots.Vacant) ∷ behind c)
 turned c =
     let self = c.args.self.now in let pass = c.args.pass.now in let me = pass.seat.me in let workers = self.setting.workers in
     let h = c.requires.due.0 in let holds = c.requires.due.1 in
     let m = c.requires.pass.8.holds h holds in
     let list = holder_list pass.worker workers (room_of self.setting) me h holds (sym m.1 ∙ c.requires.unpublished) c.requires.pass.2 c.requires.pass.6 c.requires.pass.7 ∙ ap (λ (o : List ℕ). (me.0, behind c ++ (workers, Slots.Vacant) ∷ vacant o)) (owed_to_none c) in
-    turned_to me c.turn.new.self.me me.0 (behind c ++ (workers, Slots.Vacant) ∷ []) list c.turn.ensures.2 ∙ ap (λ (i : ℕ). (me.0, (i, Slots.Vacant) ∷ behind c)) (sym (c.flag-at.ensures ∙ c.layout.ensures.workers))
+    turned_to me c.turn.new.self.me me.0 (behind c ++ (workers, Slots.Vacant) ∷ []) list c.turn.ensures.2 ∙ ap (λ (i : ℕ). (me.0, (i, Slots.Vacant) ∷ behind c)) (sym (c.shop_slot-home.ensures ∙ c.layout-layout.ensures.workers))
 
 -- the seat once the shop lies there
-put : (c : After-exchange) (xs : List (ℕ × Slot)) → c.turn.new.self.me ≡ (c.args.pass.now.seat.me.0, (c.flag-at.result, Slots.Vacant) ∷ xs) → c.exchange.new.seat.me ≡ (c.args.pass.now.seat.me.0, (c.flag-at.result, Slots.Shop c.args.shop) ∷ xs)
-put c xs is = swapped c.turn.new.self.me c.exchange.new.seat.me c.args.pass.now.seat.me.0 c.flag-at.result Slots.Vacant (Slots.Shop c.args.shop) xs is c.exchange.ensures.3
+put : (c : After-exchange) (xs : List (ℕ × Slot)) → c.turn.new.self.me ≡ (c.args.pass.now.seat.me.0, (c.shop_slot-home.result, Slots.Vacant) ∷ xs) → c.exchange.new.seat.me ≡ (c.args.pass.now.seat.me.0, (c.shop_slot-home.result, Slots.Shop c.args.shop) ∷ xs)
+put c xs is = swapped c.turn.new.self.me c.exchange.new.seat.me c.args.pass.now.seat.me.0 c.shop_slot-home.result Slots.Vacant (Slots.Shop c.args.shop) xs is c.exchange.ensures.3
 
 pub exchange-requires : goal.exchange-requires
 exchange-requires c =
     let at = (goal.at.exchange-requires c).After-turn in
-    (c.turn.ensures.0 ∙ c.requires.pass.0, (Slots.Vacant, first c.turn.new.self.me c.args.pass.now.seat.me.0 c.flag-at.result Slots.Vacant (behind at) (turned at)))
+    (c.turn.ensures.0 ∙ c.requires.pass.0, (Slots.Vacant, first c.turn.new.self.me c.args.pass.now.seat.me.0 c.shop_slot-home.result Slots.Vacant (behind at) (turned at)))
 
 pub store-requires : goal.store-requires
 store-requires c =
@@ -44,11 +45,12 @@ store-requires c =
     let lies = put at.After-exchange (behind at.After-turn) (turned at.After-turn) in
     let self = c.args.self.now in let pass = c.args.pass.now in let v = pass.seat.me.0 in
     let h = c.requires.due.0 in let due = c.requires.due.2 in
-    let place = c.flag-at.ensures ∙ c.layout.ensures.workers in
+    let word = c.flag-at.ensures ∙ ap flag_at c.layout-layout.ensures.workers in
+    let place = c.shop_slot-home.ensures ∙ c.layout-layout.ensures.workers in
     let laws = c.laws_hold.ensures self.setting refl in (
       c.exchange.ensures.0 ∙ (c.turn.ensures.0 ∙ c.requires.pass.0),
-      omega (arith, self.sized.0, place),
-      rw (self.key.0, place) (λ a b d e f. let x = (releases_both_at (job_of self.setting) (room_of self.setting) laws _ _ v [] pass.worker pass.number.0 pass.number.1 _ h c.args.shop (lies ∙ ap (λ (i : ℕ). (v, (i, Slots.Shop c.args.shop) ∷ behind at.After-turn)) place) c.requires.due.1 due.looked due.answered c.requires.due.3) a b d e f in (x.0, x.1, x.2, x.3.0, x.4)),
+      omega (arith, self.sized.0, word),
+      rw (self.key.0, word) (λ a b d e f. let x = (releases_both_at (job_of self.setting) (room_of self.setting) laws _ _ v [] pass.worker pass.number.0 pass.number.1 _ h c.args.shop (lies ∙ ap (λ (i : ℕ). (v, (i, Slots.Shop c.args.shop) ∷ behind at.After-turn)) place) c.requires.due.1 due.looked due.answered c.requires.due.3) a b d e f in (x.0, x.1, x.2, x.3.0, x.4)),
     )
 
 pub returns : goal.returns

@@ -5,44 +5,46 @@ use Rattle.table_rule.specs.Plays.{SeatState}
 use Rattle.table_rule.specs.Shows.{room_of, job_of}
 use Rattle.table_rule.specs.Passes.{releasing}
 use Rattle.table_rule.specs.Views.{with_step}
+use Rattle.table_rule.specs.Words.{flag_at}
 use Rattle.core_table.proofs.ListLemmas.Owed.{owes_nobody, remembers_none}
 use Rattle.core_table.proofs.PassLemmas.PassKept.{held_out, pass_made, first, swapped, holder_after, carries_released}
 use Rattle.table_rule.proofs.StepLemmas.GateSteps.{releases_shop_at}
-use Rattle.core_table.proofs.table.CoreTable.release_shop.Goals.{After-flag-at, After-exchange}
+use Rattle.core_table.proofs.table.CoreTable.release_shop.Goals.{After-shop_slot-home, After-exchange}
 use Rattle.core_table.proofs.table.CoreTable.release_shop.Goals as goal
 
-owed_to_none : (c : After-flag-at) → c.requires.due.0.owed ≡ []
+owed_to_none : (c : After-shop_slot-home) → c.requires.due.0.owed ≡ []
 owed_to_none c = owes_nobody c.requires.due.0 (c.requires.pass.8.holds c.requires.due.0 c.requires.due.1).2 c.requires.due.2.answered
 
-published : (c : After-flag-at) → c.requires.due.0.published ≡ true
+published : (c : After-shop_slot-home) → c.requires.due.0.published ≡ true
 published c = sym (c.requires.pass.8.holds c.requires.due.0 c.requires.due.1).1 ∙ c.requires.published
 
 -- the slot of the shop is the one that the holder has in hand
-in_hand : (c : After-flag-at) → c.args.pass.now.seat.me ≡ (c.args.pass.now.seat.me.0, (c.flag-at.result, Slots.Vacant) ∷ [])
+in_hand : (c : After-shop_slot-home) → c.args.pass.now.seat.me ≡ (c.args.pass.now.seat.me.0, (c.shop_slot-home.result, Slots.Vacant) ∷ [])
 in_hand c =
     let pass = c.args.pass.now in let me = pass.seat.me in
     holder_after pass.worker c.args.self.now.setting.workers me c.requires.due.0 [] c.requires.due.1 (published c) (owed_to_none c) c.requires.pass.2 c.requires.pass.7
-    ∙ ap (λ (i : ℕ). (me.0, (i, Slots.Vacant) ∷ [])) (sym (c.flag-at.ensures ∙ c.layout.ensures.workers))
+    ∙ ap (λ (i : ℕ). (me.0, (i, Slots.Vacant) ∷ [])) (sym (c.shop_slot-home.ensures ∙ c.layout-layout.ensures.workers))
 
 -- the seat once the shop lies there
-put : (c : After-exchange) → c.args.pass.now.seat.me ≡ (c.args.pass.now.seat.me.0, (c.flag-at.result, Slots.Vacant) ∷ []) → c.exchange.new.seat.me ≡ (c.args.pass.now.seat.me.0, (c.flag-at.result, Slots.Shop c.args.shop) ∷ [])
-put c is = swapped c.args.pass.now.seat.me c.exchange.new.seat.me c.args.pass.now.seat.me.0 c.flag-at.result Slots.Vacant (Slots.Shop c.args.shop) [] is c.exchange.ensures.3
+put : (c : After-exchange) → c.args.pass.now.seat.me ≡ (c.args.pass.now.seat.me.0, (c.shop_slot-home.result, Slots.Vacant) ∷ []) → c.exchange.new.seat.me ≡ (c.args.pass.now.seat.me.0, (c.shop_slot-home.result, Slots.Shop c.args.shop) ∷ [])
+put c is = swapped c.args.pass.now.seat.me c.exchange.new.seat.me c.args.pass.now.seat.me.0 c.shop_slot-home.result Slots.Vacant (Slots.Shop c.args.shop) [] is c.exchange.ensures.3
 
 pub exchange-requires : goal.exchange-requires
 exchange-requires c =
-    let at = (goal.at.exchange-requires c).After-flag-at in
-    (c.requires.pass.0, (Slots.Vacant, first c.args.pass.now.seat.me c.args.pass.now.seat.me.0 c.flag-at.result Slots.Vacant [] (in_hand at)))
+    let at = (goal.at.exchange-requires c).After-shop_slot-home in
+    (c.requires.pass.0, (Slots.Vacant, first c.args.pass.now.seat.me c.args.pass.now.seat.me.0 c.shop_slot-home.result Slots.Vacant [] (in_hand at)))
 
 pub store-requires : goal.store-requires
 store-requires c =
     let at = goal.at.store-requires c in
     let self = c.args.self.now in let pass = c.args.pass.now in let v = pass.seat.me.0 in
     let h = c.requires.due.0 in let due = c.requires.due.2 in
-    let place = c.flag-at.ensures ∙ c.layout.ensures.workers in
+    let word = c.flag-at.ensures ∙ ap flag_at c.layout-layout.ensures.workers in
+    let place = c.shop_slot-home.ensures ∙ c.layout-layout.ensures.workers in
     let laws = c.laws_hold.ensures self.setting refl in (
       c.exchange.ensures.0 ∙ c.requires.pass.0,
-      omega (arith, self.sized.0, place),
-      rw (self.key.0, place) (λ a b d e f. let x = (releases_shop_at (job_of self.setting) (room_of self.setting) laws _ _ v [] pass.worker pass.number.0 pass.number.1 _ h c.args.shop (put at.After-exchange (in_hand at.After-flag-at) ∙ ap (λ (i : ℕ). (v, (i, Slots.Shop c.args.shop) ∷ [])) place) c.requires.due.1 due.looked (published at.After-flag-at) due.answered c.requires.due.3) a b d e f in (x.0, x.1, x.2, x.3.0, x.4)),
+      omega (arith, self.sized.0, word),
+      rw (self.key.0, word) (λ a b d e f. let x = (releases_shop_at (job_of self.setting) (room_of self.setting) laws _ _ v [] pass.worker pass.number.0 pass.number.1 _ h c.args.shop (put at.After-exchange (in_hand at.After-shop_slot-home) ∙ ap (λ (i : ℕ). (v, (i, Slots.Shop c.args.shop) ∷ [])) place) c.requires.due.1 due.looked (published at.After-shop_slot-home) due.answered c.requires.due.3) a b d e f in (x.0, x.1, x.2, x.3.0, x.4)),
     )
 
 pub returns : goal.returns
@@ -50,9 +52,9 @@ returns c =
     let at = goal.at.returns c in
     let self = c.args.self.now in let pass = c.args.pass.now in let old = pass.seat in let v = old.me.0 in
     let h = c.requires.due.0 in let holds = c.requires.due.1 in
-    let last = c.store.ensures.2 ∙ ap (λ (m : SeatState). (with_step releasing m.0, rest m.1)) (put at.After-exchange (in_hand at.After-flag-at)) in
+    let last = c.store.ensures.2 ∙ ap (λ (m : SeatState). (with_step releasing m.0, rest m.1)) (put at.After-exchange (in_hand at.After-shop_slot-home)) in
     record {
       pass = pass_made self.setting _ pass.worker old c.store.new.seat (with_step releasing v) [] (c.store.ensures.0 ∙ c.exchange.ensures.0) last refl refl refl refl refl refl
-          (carries_released pass.worker v (held_out pass.worker old.me h c.requires.pass.7 holds)) (remembers_none (with_step releasing v) _ _ refl ((c.requires.pass.8.holds h holds).0 ∙ owed_to_none at.After-flag-at)) tt c.requires.pass;
+          (carries_released pass.worker v (held_out pass.worker old.me h c.requires.pass.7 holds)) (remembers_none (with_step releasing v) _ _ refl ((c.requires.pass.8.holds h holds).0 ∙ owed_to_none at.After-shop_slot-home)) tt c.requires.pass;
       released = ap (λ (m : SeatState). m.0) last;
     }

@@ -7,16 +7,19 @@ ghost use Rattle.two_deques.specs.declared.rule.Part.{Part as PartOf};
 ghost use Rattle.two_deques.specs.Rule.{owner_part, thief_part, stolen_by, AreStolen};
 ghost use Rattle.two_deques.specs.Rule.{ObeysRule, FoundAtMost};
 
-use crate::{Decks, Hand};
+use crate::{DeckPair, Decks, Hand, Stealers};
 
 fn can_be_sent<T: Send>() {}
 
 fn can_be_shared<T: Sync>() {}
 
 /// `Hand` is `Send` and `Decks` is `Sync`: a hand can move to its worker's thread, and all threads share the deques.
+/// `DeckPair` and `Stealers` are `Send`: any thread can make a worker's deques, and any thread can give them back.
 pub fn hands_go_to_threads() {
     can_be_sent::<Hand>();
     can_be_shared::<Decks>();
+    can_be_sent::<DeckPair>();
+    can_be_sent::<Stealers>();
 }
 
 /// The rule holds for a new deque, and still holds when a thief that has stolen nothing joins.

@@ -1,6 +1,8 @@
--- The construction of a hand from the ends of one worker.
+-- The pair at hand, and the construction of a hand from the ends of one worker.
 use Rattle.std.proofs.Common.{◌≡◌, ◌≢◌, ℕ, ◌+◌, ◌<◌, List, [], ◌∷◌, ◌++◌, length, get_or, drop, take, sym, ap, ◌∙◌, subst, arith}
 use Rattle.std.proofs.lemmas.List.{get_or_append_left, get_or_push, length_push, get_or-drop, drop-drop}
+use Rattle.std.proofs.lemmas.List.Elements.{All-head, All-tail}
+use Rattle.std.specs.List.{All}
 use mathlib.Core.Logic.{dite}
 use native.Mathlib.Decide.{ℕ_discrete}
 use Rattle.two_deques.specs.declared.ends.Ends.{Ends}
@@ -11,6 +13,11 @@ use Rattle.two_deques.specs.Reaches.{Thief}
 use Rattle.two_deques.specs.Ends.{held_ends, fresh_ends}
 use Rattle.two_deques.specs.Hands.{held, fresh_hand, AreEndsOf, IsHandOf, AreHandsUpTo}
 use Rattle.two_deques.specs.Code.Opening.{AreMade}
+
+-- what holds of all holds of the one after `before`
+pub at_hand : {X : Type 0} (P : X → Type 0) (before rest : List X) (x : X) → All P (before ++ x ∷ rest) → P x
+at_hand P [] rest x each = All-head P x rest each
+at_hand P (b ∷ before) rest x each = at_hand P before rest x (All-tail P b (before ++ x ∷ rest) each)
 
 ends_of_made : {T : Type 0} (n room w : ℕ) (thieves : List (Thief T)) (all : List (Ends T)) (e : Ends T)
     → AreMade n n room thieves all → w < n → e ≡ get_or all w e

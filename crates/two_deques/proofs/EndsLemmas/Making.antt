@@ -1,4 +1,4 @@
--- The construction of all workers' ends: first their own ends one by one, then their reaches.
+-- The construction of all workers' ends: first their own ends one by one, from the pairs, then their reaches.
 use Rattle.std.proofs.Common.{◌≡◌, ◌≢◌, ℕ, ◌+◌, ◌<◌, ◌≤◌, List, [], ◌∷◌, ◌++◌, length, set, get_or, replicate, sym, ap, ◌∙◌, subst, arith}
 use Rattle.std.proofs.lemmas.List.{get_or-set_same, get_or-set_other, length-set, get_or_append_left, get_or_push, length_push}
 use mathlib.Core.Logic.{dite}
@@ -11,6 +11,7 @@ use Rattle.two_deques.specs.declared.rule.DequeRule.{DequeRule}
 use Rattle.two_deques.specs.declared.ends.Ends.{Ends}
 use Rattle.two_deques.specs.Reaches.{Thief, ReachEach}
 use Rattle.two_deques.specs.Ends.{HeldEnds, held_ends, fresh_ends}
+use Rattle.two_deques.specs.Pairs.{IsNewDeque}
 use Rattle.two_deques.specs.Code.Opening.{IsNew, HasReaches, AreMade}
 
 module _ {T : Type 0} where
@@ -38,7 +39,7 @@ module _ {T : Type 0} where
         reached = λ w v lt there. absurd (omega (arith, lt));
       }
 
-  pub one_more_by : (n room : ℕ) (thieves then_thieves : List (Thief T)) (all then_all : List (Ends T)) (t : Thief T) (e : Ends T)
+  one_more_by : (n room : ℕ) (thieves then_thieves : List (Thief T)) (all then_all : List (Ends T)) (t : Thief T) (e : Ends T)
       → AreMade 0 n room thieves all → then_thieves ≡ thieves ++ t ∷ [] → then_all ≡ all ++ e ∷ []
       → stealer_deque t ≡ worker_deque e.own → room ≤ worker_capacity e.own → held_ends e ≡ fresh_ends T 0
       → AreMade 0 (n + 1) room then_thieves then_all
@@ -50,6 +51,14 @@ module _ {T : Type 0} where
         ap (λ (g : HeldEnds T). g.pushes) fresh,
         ap (λ (g : HeldEnds T). g.empty_pops) fresh,
       ))
+
+  -- one new deque more, from the pair after those that were seen
+  pub one_more_of : {P : Type 0} (seen : List P) (pair : P) (room : ℕ) (thieves then_thieves : List (Thief T)) (all then_all : List (Ends T)) (t : Thief T) (e : Ends T)
+      → AreMade 0 (length seen) room thieves all → then_thieves ≡ thieves ++ t ∷ [] → then_all ≡ all ++ e ∷ []
+      → IsNewDeque room e t → AreMade 0 (length (seen ++ pair ∷ [])) room then_thieves then_all
+  one_more_of seen pair room thieves then_thieves all then_all t e h first second new =
+      subst (λ (n : ℕ). AreMade 0 n room then_thieves then_all) (sym (length_push seen pair))
+      (one_more_by (length seen) room thieves then_thieves all then_all t e h first second new.0 new.1 new.2)
 
   -- the next worker has its reaches, and its own end is unchanged
   next_reached : (k n room : ℕ) (thieves : List (Thief T)) (all : List (Ends T)) (e v : Ends T) → AreMade k n room thieves all
@@ -92,3 +101,17 @@ module _ {T : Type 0} where
         stolen ∙ ap (λ m. replicate m []) count,
         failed_steals ∙ ap (λ m. replicate m 0) count,
       )
+
+  -- the ends of all workers have their reaches, by whatever names the deques, their number and their room are known
+  pub reached_all : (m n room room' : ℕ) (thieves seen : List (Thief T)) (ends all : List (Ends T)) → m ≡ n → room' ≡ room
+      → seen ≡ thieves → AreMade 0 n room thieves ends
+      → ((k : ℕ) → AreMade 0 (length seen) k seen ends → AreMade (length seen) (length seen) k seen all)
+      → AreMade m m room' thieves all
+  reached_all m n room room' thieves seen ends all count rooms same begun reached =
+      let long : length seen ≡ n = ap length same ∙ begun.thieves_count in
+      let start : AreMade 0 (length seen) room' seen ends =
+      subst (λ (k : ℕ). AreMade 0 k room' seen ends) (sym long)
+      (subst (λ (k : ℕ). AreMade 0 n k seen ends) (sym rooms)
+      (subst (λ (l : List (Thief T)). AreMade 0 n room l ends) (sym same) begun)) in
+      subst (λ (k : ℕ). AreMade k k room' thieves all) (long ∙ sym count)
+      (subst (λ (l : List (Thief T)). AreMade (length seen) (length seen) room' l all) same (reached room' start))

@@ -1,8 +1,9 @@
 //! The construction of the deques of one kind, and of all workers' ends of them.
-ghost use Rattle.std.specs.Prelude.{◌≡◌, ◌<◌, ◌≤◌, [], length, map, replicate, IfOk};
+ghost use Rattle.std.specs.Prelude.{◌≡◌, ◌<◌, ◌≤◌, ℕ, [], length, map, replicate, IfOk};
 ghost use Rattle.crossbeam_deque.specs.Handles.{worker_capacity};
 ghost use Rattle.two_deques.specs.Reaches.{ReachEach};
 ghost use Rattle.two_deques.specs.Ends.{held_ends, fresh_ends, stolen_there};
+ghost use Rattle.two_deques.specs.Pairs.{IsNewDeque};
 ghost use Rattle.two_deques.specs.Code.Opening.{AreMade};
 
 use crate::ends::{Ends, Reach};
@@ -45,35 +46,32 @@ fn reaches_into<T: Drop>(alloc: Global, thieves: &[Thief<T>]) -> Result<Vec<Reac
     Ok(reaches)
 }
 
-/// A new deque for each worker: its stealer, and its owner's ends, which have no reaches yet.
-fn own_deques<T: Drop>(
+/// A new deque: its owner's ends, which reach into no deque yet, and its stealer.
+pub(crate) fn own_deque<T: Drop>(
     alloc: Global,
-    workers: usize,
     room: usize,
-) -> Result<(Vec<Thief<T>>, Vec<Ends<T>>), AllocError>
-    ensures { IfOk result (λ r. AreMade 0 workers room r.0.items r.1.items) }
+) -> Result<(Ends<T>, Thief<T>), AllocError>
+    ensures { IfOk result (λ r. IsNewDeque room r.0 r.1) }
 {
-    let mut thieves = Vec::new(alloc);
-    let mut all = Vec::new(alloc);
-    for worker in 0..workers {
-        let ends = own_ends::<T>(alloc, room)?;
-        thieves.push(ends.own.stealer()?)?;
-        all.push(ends)?;
-    }
-    Ok((thieves, all))
+    let ends = own_ends::<T>(alloc, room)?;
+    let thief = ends.own.stealer()?;
+    Ok((ends, thief))
 }
 
-/// A new deque for each worker: its stealer, and its owner's complete ends.
-pub(crate) fn deques<T: Drop>(
+/// The owners' ends of these deques, in their order, now with a new reach into each deque.
+pub(crate) fn with_reaches<T: Drop>(
     alloc: Global,
-    workers: usize,
-    room: usize,
-) -> Result<(Vec<Thief<T>>, Vec<Ends<T>>), AllocError>
-    ensures { IfOk result (λ r. AreMade workers workers room r.0.items r.1.items) }
+    thieves: &[Thief<T>],
+    ends: Vec<Ends<T>>,
+) -> Result<Vec<Ends<T>>, AllocError>
+    requires { length ends.items ≡ length thieves.now }
+    ensures { IfOk result (λ v. (room : ℕ)
+        → AreMade 0 (length thieves.now) room thieves.now ends.items
+        → AreMade (length thieves.now) (length thieves.now) room thieves.now v.items) }
 {
-    let (thieves, mut all) = own_deques::<T>(alloc, workers, room)?;
-    for worker in 0..workers {
-        all[worker].reaches = reaches_into(alloc, &thieves)?;
+    let mut all = ends;
+    for worker in 0..thieves.len() {
+        all[worker].reaches = reaches_into(alloc, thieves)?;
     }
-    Ok((thieves, all))
+    Ok(all)
 }

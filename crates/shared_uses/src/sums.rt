@@ -30,20 +30,16 @@ fn sum_of(numbers: &[u64]) -> u64
     total
 }
 
-/// A chunk for each caller, of about the same length.
-fn jobs_of(
-    alloc: Global,
-    callers: Vec<Caller<Counter>>,
-    count: usize,
-) -> Result<Vec<Job>, AllocError>
+/// A chunk for each caller, of about the same length, from place 0 to the end.
+fn jobs_of(alloc: Global, callers: Vec<Caller<Counter>>, end: usize) -> Result<Vec<Job>, AllocError>
     requires { 0 < length callers.items }
-    ensures { IfOk result (λ jobs. AreJobs (λ job. job.caller) 0 count jobs.items callers.items) }
+    ensures { IfOk result (λ jobs. AreJobs (λ job. job.caller) 0 end jobs.items callers.items) }
 {
     let mut jobs = Vec::with_capacity(alloc, callers.len())?;
     let mut left = callers.len();
     let mut from = 0;
     for caller in callers {
-        let to = from + (count - from) / left;
+        let to = from + (end - from) / left;
         jobs.push(Job { caller, from, to })?;
         from = to;
         left -= 1;

@@ -9,17 +9,17 @@ loop-caller-preserved c =
     let i = c.loop-caller.invariant in
     let from = c.loop-caller.from in
     let left = c.loop-caller.left in
-    let count = c.args.count in
-    let to = from + (count - from) / left in
+    let end = c.args.end in
+    let to = from + (end - from) / left in
     let within = i.within in
     let same = i.left in
     let more = ap (λ l. length l) c.in-Some.ensures.steps.0 in
-    let part = div-le_self (count - from) left in record {
+    let part = div-le_self (end - from) left in record {
       jobs = rw c.in_ok-push.ensures.items (jobs_more (λ job. job.caller) 0 from c.loop-caller.jobs.items c.loop-caller.yielded (record { caller = c.in-Some.caller; from = from; to = to }) i.jobs refl (omega arith));
       within = omega (arith, within, part);
       left = omega (arith, same, more);
       ends = λ zero.
           let one : left ≡ 1 = omega (arith, same, more, zero) in
-          ap (λ (m : ℕ). from + (count - from) / m) one ∙ omega (arith, within);
+          ap (λ (m : ℕ). from + (end - from) / m) one ∙ omega (arith, within);
       all = grind (arith, common_steps, c.in-Some.ensures.steps, i.all);
     }

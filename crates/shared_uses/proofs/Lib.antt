@@ -1,3 +1,4 @@
 pub mod Draws
 pub mod Adds
+pub mod Inserts
 pub mod Passes

@@ -1,4 +1,5 @@
 -- What the uses of shared structures come to.
 pub mod Drawing
 pub mod Adding
+pub mod Inserting
 pub mod Piping

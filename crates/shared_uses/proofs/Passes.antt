@@ -20,7 +20,7 @@ use Rattle.shared_collections.specs.declared.fifo.FifoOp.TheVariants.{Put, Get}
 use Rattle.shared_collections.specs.declared.fifo.FifoReply.{FifoReply}
 use Rattle.shared_uses.specs.declared.passing.Part.{Part}
 use Rattle.shared_uses.specs.declared.passing.Work.{Work}
-use Rattle.shared_uses.specs.Piping.{Passed, put_by, taken_by, ArePassedOn, item_put, item_taken, puts_of, takes_of, HasRoom}
+use Rattle.shared_uses.specs.Piping.{Passed, put_by, taken_by, ArePassedOn, item_put, item_taken, puts_of, takes_of, HasAllRoom}
 
 abbrev Call : Type 0
 Call = Entry FifoOp FifoReply
@@ -269,7 +269,13 @@ caller_at f [] i p is = refl
 caller_at f (q ∷ parts) zero p is = ap f is
 caller_at f (q ∷ parts) (suc i) p is = caller_at f parts i p is
 
-pub room_at : (parts : List Part) → AllByRecursion HasRoom parts → (i : ℕ) (p : Part) → i < length parts → p ≡ get_or parts i p → HasRoom p
+pub room_at : (parts : List Part) → AllByRecursion HasAllRoom parts → (i : ℕ) (p : Part) → i < length parts → p ≡ get_or parts i p → HasAllRoom p
 room_at [] room i p less is = absurd (omega (arith, less))
-room_at (q ∷ parts) room zero p less is = subst HasRoom (sym is) room.0
+room_at (q ∷ parts) room zero p less is = subst HasAllRoom (sym is) room.0
 room_at (q ∷ parts) room (suc i) p less is = room_at parts room.1 i p (omega (arith, less)) is
+
+-- what stands at a place of a list
+pub stands : {X : Type 0} (xs : List X) (i : ℕ) (d : X) → i < length xs → get_or xs i d ≡ get_or xs i (get_or xs i d)
+stands [] i d less = absurd (omega (arith, less))
+stands (x ∷ xs) zero d less = refl
+stands (x ∷ xs) (suc i) d less = stands xs i d (omega (arith, less))

@@ -51,15 +51,26 @@ puts_of es = flat_map (λ e. item_put e.op) es
 abbrev pub takes_of : List (Entry FifoOp FifoReply) → List ℕ
 takes_of es = flat_map (λ e. item_taken e.reply) es
 
--- room for what the part shall take
+-- the part has taken no more than it shall, and has room for the rest
 abbrev pub HasRoom : Part → Type 0
-HasRoom part = (part.taken.items ≡ []) × (vec_len part.taken ≡ 0) × (part.work.takes ≤ vec_capacity part.taken)
+HasRoom part = (vec_len part.taken ≤ part.work.takes) × (part.work.takes ≤ vec_capacity part.taken)
+
+-- the part has taken nothing, and has room for what it shall take
+abbrev pub HasAllRoom : Part → Type 0
+HasAllRoom part = (part.taken.items ≡ []) × HasRoom part
 
 -- the part of thread n, which has yet to begin, and has room for what it shall take
 pub record IsReady (queue : SharedFifo) (n : ℕ) (part : Part) : Type 0 where
   pub caller : IsCallerOf queue.shared part.caller × (number_of part.caller ≡ n)
   pub new : (is_lost part.caller ≡ false) × (made part.caller ≡ [])
+  pub room : HasAllRoom part
+
+-- the part of thread n after the first round: it has put the items of its work, and taken some, unless the queue is lost
+pub record HasPassed (queue : SharedFifo) (n : ℕ) (work : Work) (part : Part) : Type 0 where
+  pub caller : IsCallerOf queue.shared part.caller × (number_of part.caller ≡ n)
+  pub same : part.work ≡ work
   pub room : HasRoom part
+  pub passed : is_lost part.caller ≡ false → (puts_of (made part.caller) ≡ work.puts.items) × (takes_of (made part.caller) ≡ part.taken.items)
 
 -- the part of thread n, which had this work: it has done all of it, unless the queue is lost
 pub record IsDone (queue : SharedFifo) (n : ℕ) (work : Work) (part : Part) : Type 0 where

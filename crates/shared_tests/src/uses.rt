@@ -1,7 +1,7 @@
 //! Each use, run once.
 ghost use Rattle.std.specs.Prelude.{◌≡◌, ◌+◌, ◌<◌, ◌^◌, length, IfOk};
 
-use shared_uses::{Work, draw_in_threads, pass_on, sum_in_threads};
+use shared_uses::{Work, count_distinct, draw_in_threads, pass_on, sum_in_threads};
 use std::alloc::{AllocError, Global};
 use std::test::*;
 
@@ -42,6 +42,20 @@ fn items_from(alloc: Global, first: u32, count: u32) -> Result<Vec<u32>, AllocEr
         items.push(first + i)?;
     }
     Ok(items)
+}
+
+#[test]
+fn distinct_keys_are_counted(rt: HostRuntime) -> Result<(), Fail> {
+    let mut keys = Vec::new(rt.alloc());
+    keys.push(items_from(rt.alloc(), 0, 500)?)?;
+    keys.push(items_from(rt.alloc(), 250, 500)?)?;
+    keys.push(Vec::new(rt.alloc()))?;
+    keys.push(Vec::from_slice(rt.alloc(), &[u32::MAX, 9, u32::MAX])?)?;
+    assert!(rt; count_distinct(&rt, rt.alloc(), keys)? == 751);
+    let mut none = Vec::new(rt.alloc());
+    none.push(Vec::new(rt.alloc()))?;
+    assert!(rt; count_distinct(&rt, rt.alloc(), none)? == 0);
+    Ok(())
 }
 
 #[test]

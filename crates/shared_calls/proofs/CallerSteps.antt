@@ -22,6 +22,7 @@ use Rattle.shared_calls.specs.Stages.{Stage, away, idle, posted, taken, owed, an
 use Rattle.shared_calls.specs.Rule.{Stands, Sees, Keeps, made_by}
 use Rattle.shared_calls.specs.Plays.{with_request, found_lost, own_calls, leaving, winning, heard_view, retiring, KnowsItsCalls, Enrolls, Posts, Leaves, Wins, Hears, Retires}
 use Rattle.shared_calls.proofs.Lists.{calls_since}
+use Rattle.shared_calls.proofs.Losses.{known_set}
 use Rattle.shared_calls.proofs.Moves.{true_false, my, own_step, held_step, alike}
 
 module _ {O R : Type 0} where
@@ -328,6 +329,7 @@ module _ {T O R : Type 0} (object : SerialObject O R) (content : T → object.St
             none_taken = o.none_taken;
             none_owed = o.none_owed;
             cause = o.cause;
+            told = λ _. known_set s.views id v w me (λ less _. (less, refl)) (o.told lost);
             sees = λ i u e. ⊎_elim (λ t. subst (Sees p (get_or s.words p 0) o.log) t.1 (record { seen = sees.seen; heard = sees.heard; lost = λ _. (lost, refl) })) (λ t. o.sees i u t.1) (at_set s.views id i w u e);
             stands = λ i u x e lo hi. ⊎_elim
                 (λ t.

@@ -1,5 +1,5 @@
 -- The end of a shared structure.
-use Rattle.std.proofs.Common.{append-nil, ◌≡◌, ◌≢◌, ◌⊎◌, ℕ, zero, suc, ◌+◌, ◌-◌, ◌<◌, ◌≤◌, List, [], ◌∷◌, ◌++◌, map, length, get_or, set, Vec, Global, Bool, true, false, sym, refl, ap, ◌∙◌, subst, inl, inr, arith, get_or-set_other}
+use Rattle.std.proofs.Common.{append-nil, ◌≡◌, ◌≢◌, ◌⊎◌, ℕ, zero, suc, ◌+◌, ◌-◌, ◌<◌, ◌≤◌, List, [], ◌∷◌, ◌++◌, map, length, get_or, set, Vec, Global, Bool, true, false, sym, refl, ap, ◌∙◌, subst, inl, inr, ⊎_elim, arith, get_or-set_other}
 use Rattle.std.specs.Prelude.{flat_map, IsPermutation}
 use Rattle.std.specs.List.{AllByRecursion}
 use Rattle.std.proofs.lemmas.List.Sorted.{IsPermutation-refl, IsPermutation-trans, IsPermutation-cons, IsPermutation-middle, IsPermutation-append_right}
@@ -22,9 +22,11 @@ use Rattle.shared_calls.specs.Logs.{calls_by, StartsWith, state_after}
 use Rattle.shared_calls.specs.Stages.{Stage, away, idle, posted, taken, owed, answered, retired, request_of, served}
 use Rattle.shared_calls.specs.Rule.{IsLost, Keeps, made_by}
 use Rattle.shared_calls.specs.Plays.{retiring, gathering, spent_view, KnowsItsCalls}
-use Rattle.shared_calls.specs.Views.{number_of, made, seen, IsCallerOf}
-use Rattle.shared_calls.specs.Closing.{AreCallersOf, AreAllCalls, AreFrom, Gathers, HasSlotsBelow}
-use Rattle.shared_calls.proofs.Lists.{each_so, calls_here, calls_else}
+use Rattle.shared_calls.specs.Views.{number_of, made, seen, is_lost, IsCallerOf}
+use Rattle.shared_calls.specs.Closing.{AreCallersOf, AreAllCalls, AreFrom, Gathers, HasSlotsBelow, SomeIsLost, NoneIsLost}
+use Rattle.shared_calls.proofs.Lists.{each_so, each_push, there_push, last_there, calls_here, calls_else}
+use Rattle.shared_calls.proofs.Losses.{true_or, or_true, one_is_true, not_true}
+use Rattle.shared_calls.proofs.Moves.{true_false}
 use Rattle.shared_calls.proofs.Seats.{gathers}
 
 cleared : (filled : List Bool) (at : ℕ) → get_or (set filled at false) at false ≡ false
@@ -120,6 +122,13 @@ module _ {T O R : Type 0} {g : Ghosts T O R} where
     by_case false e = let is = c.idle e in (ap (λ m. m.0.holds) is, inl (ap (λ m. m.0.request) is))
     by_case true e = let t = c.told e in (t.1, inr (t.0, t.2))
 
+  -- a caller whose seat has found the structure lost was told so
+  was_told : (c : Caller T O R g) → c.seat.me.0.lost ≡ true → is_lost c ≡ true
+  was_told c found = by_case c.lost refl where
+    by_case : (b : Bool) → c.lost ≡ b → c.lost ≡ true
+    by_case true e = e
+    by_case false e = absurd (true_false (sym found ∙ ap (λ m. m.0.lost) (c.idle e)))
+
   -- all callers, from the first on
   pub from_each : (s : Shared T O R) (k : ℕ) (callers : List (Caller T O R g)) → k + length callers ≡ s.callers
       → ((j : ℕ) (c : Caller T O R g) → j < length callers → c ≡ get_or callers j c → IsCallerOf s c × (number_of c ≡ k + j)) → AreFrom s k callers
@@ -147,6 +156,8 @@ module _ {T O R : Type 0} {g : Ghosts T O R} where
         idle = ap (λ (w : View O R). w.holds) is ∙ idle_v;
         own = ap (λ (w : View O R). w.made) is;
         fronts = ap (λ (w : View O R). w.heard) is;
+        told = λ lost. (c, (0, omega arith, refl), was_told c (ap (λ (w : View O R). w.lost) (sym is) ∙ lost));
+        tells = ((λ lost. ap (λ (w : View O R). w.lost) is ∙ (c.told lost).0), tt);
       }
 
   -- and the next one
@@ -161,6 +172,11 @@ module _ {T O R : Type 0} {g : Ghosts T O R} where
         idle = ap (λ (u : View O R). u.holds) is ∙ so_far.idle;
         own = ap (λ (u : View O R). u.made) is ∙ (ap (λ l. l ++ made c ∷ []) so_far.own ∙ sym (map-append made done (c ∷ [])));
         fronts = ap (λ (u : View O R). u.heard) is ∙ (ap (λ l. l ++ seen c ∷ []) so_far.fronts ∙ sym (map-append seen done (c ∷ [])));
+        told = λ lost. ⊎_elim (λ before. let d = so_far.told before in (d.0, there_push done d.0 c d.1, d.2)) (λ now. (c, last_there done c, was_told c now))
+            (one_is_true v.lost c.seat.me.0.lost (ap (λ (u : View O R). u.lost) (sym is) ∙ lost));
+        tells = each_push (λ (d : Caller T O R g). is_lost d ≡ true → w.lost ≡ true) done c
+            (each_so (λ (d : Caller T O R g). is_lost d ≡ true → v.lost ≡ true) (λ (d : Caller T O R g). is_lost d ≡ true → w.lost ≡ true) (λ (d : Caller T O R g) tells lost. ap (λ (u : View O R). u.lost) is ∙ true_or v.lost c.seat.me.0.lost (tells lost)) done so_far.tells)
+            (λ lost. ap (λ (u : View O R). u.lost) is ∙ or_true v.lost c.seat.me.0.lost (c.told lost).0);
       }
 
   -- the seat of the callers so far may take in the next one's
@@ -206,16 +222,40 @@ module _ {T O R : Type 0} {g : Ghosts T O R} where
       front = λ k c less is. each_map (StartsWith keeps.log) seen callers k c less is (subst (AllByRecursion (StartsWith keeps.log)) all.fronts (keeps.sees id v final.1.1).heard);
     }
 
+    same_flag : get_or final.0.words p 0 ≡ get_or ws p 0
+    same_flag = ap (λ (l : List ℕ). get_or l p 0) final.2
+
     -- where it is not free, the structure is lost
-    pub structure_lost : get_or ws p 0 ≢ 0 → 1 ≤ p → IsLost object content fails keeps.log
-    structure_lost held some_p =
+    marked_lost : get_or ws p 0 ≢ 0 → 1 ≤ p → get_or final.0.words p 0 ≡ p + 1
+    marked_lost held some_p =
         let few = keeps.few in
         let to = all.to in
         let from = all.from in
-        let same : get_or final.0.words p 0 ≡ get_or ws p 0 = ap (λ (l : List ℕ). get_or l p 0) final.2 in
+        let same = same_flag in
         let flag : ℕ = get_or final.0.words p 0 in
         let none : (k : ℕ) → k < p → flag ≢ k + 1 = λ k less. (keeps.stands id v k final.1.1 (omega (arith, from)) (omega (arith, to, less, long))).1.free all.idle in
-        dite (ℕ_discrete flag (p + 1)) keeps.cause (λ ne. absurd (none (flag - 1) (omega (arith, few, ne, same, held)) (omega (arith, same, held))))
+        dite (ℕ_discrete flag (p + 1)) (λ is. is) (λ ne. absurd (none (flag - 1) (omega (arith, few, ne, same, held)) (omega (arith, same, held))))
+
+    pub structure_lost : get_or ws p 0 ≢ 0 → 1 ≤ p → IsLost object content fails keeps.log
+    structure_lost held some_p = keeps.cause (marked_lost held some_p)
+
+    -- and then one of the callers was told so, and otherwise none
+    pub some_lost : get_or ws p 0 ≢ 0 → 1 ≤ p → SomeIsLost callers
+    some_lost held some_p =
+        let t = keeps.told (marked_lost held some_p) in
+        let own = keeps.stands t.0 t.1 t.1.from t.2 (omega arith) t.3 in
+        let less = own.0 in
+        let from = all.from in
+        let to = all.to in
+        let last = keeps.stands id v t.1.from final.1.1 (omega (arith, from)) (omega (arith, to, less, long)) in
+        let same_seat : t.0 ≡ id = sym own.1.sits ∙ last.1.sits in
+        let same : t.1 ≡ v = some-injective t.1 v (sym t.2 ∙ (ap (λ (i : ℕ). get_elem? final.0.views i) same_seat ∙ final.1.1)) in
+        all.told (ap (λ (u : View O R). u.lost) (sym same) ∙ t.4)
+
+    pub none_lost : get_or ws p 0 ≡ 0 → NoneIsLost callers
+    none_lost free =
+        let same = same_flag in
+        each_so (λ (c : Caller T O R g). is_lost c ≡ true → v.lost ≡ true) (λ (c : Caller T O R g). is_lost c ≡ false) (λ (c : Caller T O R g) tells. not_true c.lost (λ lost. let found = ((keeps.sees id v final.1.1).lost (tells lost)).0 in absurd (omega (arith, found, same, free)))) callers all.tells
 
     -- where the flag is free, the last slot has the structure
     pub structure_there : get_or ws p 0 ≡ 0 → (t : T) × (rs : Vec R Global) × (get_elem? xs p ≡ some (Whole t rs)) × (content t ≡ state_after object keeps.log)

@@ -322,7 +322,7 @@ module _ {T O R : Type 0} (object : SerialObject O R) (content : T → object.St
             (λ u below. let ne : u ≢ p = λ e. absurd (omega (arith, e, below)) in (get_or-set_other s.words p u (p + 1) 0 ne ∙ (o.stages u below).0, (o.stages u below).1))
             (subst (IsSerial object) (sym (append-nil o.log)) o.serial) tt (omega (arith, flag_now))
             (λ e. absurd (omega (arith, e, flag_now))) (λ e. absurd (omega (arith, e, flag_now)))
-            (λ _ u op r below is. none_in v.owed (entry u op r) none_due (h.owes_all u op r below is)) (λ _. subst (IsLost object content fails) (sym (append-nil o.log ∙ h.log_is)) lost)
+            (λ _ u op r below is. none_in v.owed (entry u op r) none_due (h.owes_all u op r below is)) (λ _. (subst (IsLost object content fails) (sym (append-nil o.log ∙ h.log_is)) lost, refl))
             (λ x below. refl) (λ x below m is. ap (calls_by x) (append-nil o.log) ∙ is) (λ x below ne is. absurd (omega (arith, is, flag_now, below)))
             (λ _. (flag_now, append-nil o.log ∙ h.log_is)) (λ _ is. absurd (omega (arith, is, flag_now, less))) (λ e. absurd (true_false (sym e))),
         refl,

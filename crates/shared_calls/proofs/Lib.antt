@@ -1,4 +1,5 @@
 pub mod Lists
+pub mod Losses
 pub mod Moves
 pub mod CallerSteps
 pub mod Batches

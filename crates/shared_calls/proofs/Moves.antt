@@ -8,7 +8,7 @@ use lib.ListN.{get_elem?}
 use lib.Seq.{set-get_or}
 use Rattle.std.specs.List.{AllByRecursion}
 use Rattle.atomic_table.specs.Table.{State}
-use Rattle.atomic_table.proofs.Lists.{at_set, set_again}
+use Rattle.atomic_table.proofs.Lists.{at_set, set_here, set_again}
 use Rattle.shared_calls.specs.declared.view.Entry.{Entry}
 use Rattle.shared_calls.specs.declared.view.Asked.{Asked}
 use Rattle.shared_calls.specs.declared.view.Slot.{Slot}
@@ -19,6 +19,7 @@ use Rattle.shared_calls.specs.Logs.{calls_by, StartsWith, state_after, IsSerial}
 use Rattle.shared_calls.specs.Stages.{Stage, taken, owed, word_of, request_of, served, IsFree, HomeIs}
 use Rattle.shared_calls.specs.Rule.{IsLost, Holds, Stands, Sees, Keeps, made_by}
 use Rattle.shared_calls.proofs.Lists.{put, put_here, put_else, each_so, each_append, starts_more}
+use Rattle.shared_calls.proofs.Losses.{inside, known_set}
 
 pub true_false : true ≡ false → ⊥
 true_false e = cc
@@ -99,6 +100,7 @@ module _ {T O R : Type 0} (object : SerialObject O R) (content : T → object.St
         none_taken = λ zero_flag u below. dite (ℕ_discrete u k) (λ e. subst IsFree (sym (put_here o.stage k u b e)) after)
             (λ ne. subst IsFree (sym (put_else o.stage k u b ne)) (o.none_taken (sym flag_same ∙ zero_flag) u below));
         cause = λ lost. o.cause (sym flag_same ∙ lost);
+        told = λ lost. known_set s.views id v w me (λ less told. (omega (arith, less, from', to'), lost' ∙ told)) (o.told (sym flag_same ∙ lost));
         none_owed = λ lost u op r below is. dite (ℕ_discrete u k) (λ e. free_not_owed b op r after (sym (put_here o.stage k u b e) ∙ is))
             (λ ne. o.none_owed (sym flag_same ∙ lost) u op r below (sym (put_else o.stage k u b ne) ∙ is));
         sees = λ i u e. subst (λ (n : ℕ). Sees p n o.log u) (sym flag_same) (⊎_elim (λ t. subst (Sees p (get_or s.words p 0) o.log) t.1 sees) (λ t. o.sees i u t.1) (at_set s.views id i w u e));
@@ -150,7 +152,7 @@ module _ {T O R : Type 0} (object : SerialObject O R) (content : T → object.St
       → IsSerial object log' → AllByRecursion (λ (e : Entry O R). e.caller < p) more → flag' ≤ p + 1
       → (flag' ≡ 0 → (t : T) × (rs : _) × (get_elem? hs p ≡ some (some (Whole t rs))) × (content t ≡ state_after object log'))
       → (flag' ≡ 0 → (u : ℕ) → u < p → IsFree (stage u))
-      → (flag' ≡ p + 1 → (u : ℕ) (op : O) (r : R) → u < p → stage u ≢ owed op r) → (flag' ≡ p + 1 → IsLost object content fails log')
+      → (flag' ≡ p + 1 → (u : ℕ) (op : O) (r : R) → u < p → stage u ≢ owed op r) → (flag' ≡ p + 1 → IsLost object content fails log' × (w.lost ≡ true))
       → ((x : ℕ) → x < p → request_of (stage x) ≡ request_of (o.stage x))
       → ((x : ℕ) → x < p → (m : List (Entry O R)) → calls_by x o.log ≡ m ++ served x (o.stage x) → calls_by x log' ≡ m ++ served x (stage x))
       → ((x : ℕ) → x < p → x ≢ k → flag' ≢ x + 1)
@@ -173,7 +175,8 @@ module _ {T O R : Type 0} (object : SerialObject O R) (content : T → object.St
         home = home;
         none_taken = none_taken;
         none_owed = none_owed;
-        cause = cause;
+        cause = λ lost. (cause lost).0;
+        told = λ lost. (id, w, set_here s.views id w (inside s.views id v me), omega (arith, from, to, from', to'), (cause lost).1);
         sees = λ i u e. ⊎_elim
             (λ t.
             let was = o.sees id v me in

@@ -63,6 +63,7 @@ module _ {T O R : Type 0} (object : SerialObject O R) (content : T → object.St
         none_taken = λ _ w less. tt;
         none_owed = λ lost. absurd (omega (arith, lost, flag));
         cause = λ lost. absurd (omega (arith, lost, flag));
+        told = λ lost. absurd (omega (arith, lost, flag));
         sees = λ i u at. subst (Sees p (get_or ws p 0) []) (only_one u (first_view p) i at).1 (record { seen = ([], refl); heard = tt; lost = λ h. absurd (true_false (sym h)) });
         stands = λ i u w at lo hi. let o = only_one u (first_view p) i at in (
           subst (λ (m : ℕ). w < m) (ap (λ (y : View O R). y.to) (sym o.1)) hi,

@@ -17,6 +17,7 @@ use Rattle.shared_calls.specs.Stages.{Stage, served}
 use Rattle.shared_calls.specs.Rule.{Stands, Sees, Keeps, newcomers, made_by}
 use Rattle.shared_calls.specs.Plays.{first_caller, other_callers, note_of, hearing, spent_view, gathering}
 use Rattle.shared_calls.proofs.Lists.{put, put_here, put_else, each_append}
+use Rattle.shared_calls.proofs.Losses.{true_or, or_true, both_know, known_set, known_longer, known_moves, known_joins}
 use Rattle.shared_calls.proofs.Moves.{true_false}
 
 at_last_or : {A : Type 0} (l : List A) (a b : A) (j : ℕ) → get_elem? (l ++ a ∷ []) j ≡ some b → (get_elem? l j ≡ some b) ⊎ ((a ≡ b) × (j ≡ length l))
@@ -109,6 +110,7 @@ module _ {T O R : Type 0} (object : SerialObject O R) (content : T → object.St
         none_taken = o.none_taken;
         none_owed = o.none_owed;
         cause = o.cause;
+        told = λ lost. known_longer (set s.views id l) (r ∷ []) (known_set s.views id v l me (λ _ e. absurd (true_false (sym e))) (o.told lost));
         sees = λ i u e. elim (find i u e) [
           | inl q ↦ subst (Sees p flag o.log) q.1 (record { seen = (o.log, refl); heard = tt; lost = λ e. absurd (true_false (sym e)) })
           | inr (inl q) ↦ o.sees i u q.1
@@ -158,6 +160,7 @@ module _ {T O R : Type 0} (object : SerialObject O R) (content : T → object.St
         none_taken = o.none_taken;
         none_owed = o.none_owed;
         cause = o.cause;
+        told = λ lost. known_longer s.views (note ∷ []) (o.told lost);
         sees = λ i u e. ⊎_elim (λ t. o.sees i u t)
             (λ t. let was = o.sees id v me in subst (Sees p flag o.log) t.0 (record { seen = was.seen; heard = tt; lost = λ e. absurd (true_false (sym e)) })) (at_last_or s.views note u i e);
         stands = λ i u w e lo hi. ⊎_elim (λ t. o.stands i u w t lo hi)
@@ -171,8 +174,8 @@ module _ {T O R : Type 0} (object : SerialObject O R) (content : T → object.St
       (λ t. ⊎_elim (λ q. inr (inl q)) (λ q. inr (inr (t.0, q.0, q.1))) (at_set views id i both u t.1)) (at_set (set views id both) other i spent u e)
 
   -- a note is taken in
-  pub hears_note : (p id other : ℕ) (v w : View O R) → Joins (Keeps object content fails p) id v other w (hearing v w) spent_view
-  hears_note p id other v w s o me ne there =
+  pub hears_note : (p id other : ℕ) (v w : View O R) → w.to ≡ 0 → Joins (Keeps object content fails p) id v other w (hearing v w) spent_view
+  hears_note p id other v w none s o me ne there =
       let both : View O R = hearing v w in
       let spent : View O R = spent_view in
       let flag : ℕ = get_or s.words p 0 in
@@ -194,6 +197,7 @@ module _ {T O R : Type 0} (object : SerialObject O R) (content : T → object.St
         none_taken = o.none_taken;
         none_owed = o.none_owed;
         cause = o.cause;
+        told = λ lost. known_joins s.views id other v w both spent ne me there' (λ less told. (less, told)) (λ less _. absurd (omega (arith, less, none))) (o.told lost);
         sees = λ i u e. elim (find i u e) [
           | inl q ↦ subst (Sees p flag o.log) q.1 (record { seen = (o.log, refl); heard = tt; lost = λ e. absurd (true_false (sym e)) })
           | inr (inl q) ↦ let was = o.sees id v me in subst (Sees p flag o.log) q.1 (record { seen = was.seen; heard = ((o.sees other w there').seen, tt); lost = was.lost })
@@ -246,6 +250,7 @@ module _ {T O R : Type 0} (object : SerialObject O R) (content : T → object.St
         none_taken = o.none_taken;
         none_owed = o.none_owed;
         cause = o.cause;
+        told = λ lost. known_moves s.views id v spent me (o.told lost);
         sees = λ i u e. elim (find i u e) [
           | inl q ↦ subst (Sees p flag o.log) q.1 (record { seen = (o.log, refl); heard = tt; lost = λ e. absurd (true_false (sym e)) })
           | inr (inl q) ↦ o.sees i u q.1
@@ -328,12 +333,13 @@ module _ {T O R : Type 0} (object : SerialObject O R) (content : T → object.St
         none_taken = o.none_taken;
         none_owed = o.none_owed;
         cause = o.cause;
+        told = λ lost. known_joins s.views id other v w both spent ne me there' (λ less told. (omega (arith, some_v, next, some_w), true_or v.lost w.lost told)) (λ less told. (omega (arith, some_v, next, some_w), or_true v.lost w.lost told)) (o.told lost);
         sees = λ i u e. elim (find i u e) [
           | inl q ↦ subst (Sees p flag o.log) q.1 (record { seen = (o.log, refl); heard = tt; lost = λ e. absurd (true_false (sym e)) })
           | inr (inl q) ↦
               let was = o.sees id v me in
               let its = o.sees other w there' in
-              subst (Sees p flag o.log) q.1 (record { seen = was.seen; heard = each_append (StartsWith o.log) v.heard w.heard was.heard its.heard; lost = was.lost })
+              subst (Sees p flag o.log) q.1 (record { seen = was.seen; heard = each_append (StartsWith o.log) v.heard w.heard was.heard its.heard; lost = both_know v.lost w.lost v.log w.log o.log flag (p + 1) was.lost its.lost })
           | inr (inr q) ↦ o.sees i u q.2
         ];
         stands = λ i u x e lo hi. elim (find i u e) [

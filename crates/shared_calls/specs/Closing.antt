@@ -1,5 +1,5 @@
 -- The end of a shared structure: all callers come back.
-use Rattle.std.specs.Prelude.{ℕ, ◌≡◌, ◌+◌, ◌<◌, ◌≤◌, List, [], ◌∷◌, map, length, slice_index_or, flat_map, IsPermutation, Bool, true, false}
+use Rattle.std.specs.Prelude.{ℕ, ◌≡◌, ◌+◌, ◌<◌, ◌≤◌, List, [], ◌∷◌, map, length, slice_index_or, flat_map, Contains, IsPermutation, Bool, true, false}
 use Rattle.std.specs.List.{AllByRecursion}
 use Rattle.shared_calls.specs.declared.shared.Shared.{Shared}
 use Rattle.shared_calls.specs.declared.shared.Caller.{Caller}
@@ -9,7 +9,7 @@ use Rattle.shared_calls.specs.declared.view.Request.TheVariants.{Retired}
 use Rattle.shared_calls.specs.declared.combined.Combined.{Ghosts}
 use Rattle.shared_calls.specs.Serial.{SerialObject}
 use Rattle.shared_calls.specs.Logs.{calls_by, StartsWith, IsSerial}
-use Rattle.shared_calls.specs.Views.{number_of, number_of_callers, made, seen, IsCallerOf}
+use Rattle.shared_calls.specs.Views.{number_of, number_of_callers, made, seen, is_lost, IsCallerOf}
 
 module _ {T O R : Type 0} {g : Ghosts T O R} where
   -- all callers of this structure, in the order of their numbers
@@ -27,6 +27,13 @@ module _ {T O R : Type 0} {g : Ghosts T O R} where
     pub mixed : IsPermutation (flat_map made callers) log
     pub front : (k : ℕ) (c : Caller T O R g) → k < length callers → c ≡ slice_index_or callers k c → StartsWith log (seen c)
 
+  -- one of these callers was told that the structure is lost, or none was
+  abbrev pub SomeIsLost : List (Caller T O R g) → Type 0
+  SomeIsLost callers = (c : Caller T O R g) × Contains callers c × (is_lost c ≡ true)
+
+  abbrev pub NoneIsLost : List (Caller T O R g) → Type 0
+  NoneIsLost callers = AllByRecursion (λ (c : Caller T O R g). is_lost c ≡ false) callers
+
   -- callers with consecutive numbers from k on
   abbrev pub AreFrom : Shared T O R → ℕ → List (Caller T O R g) → Type 0
   AreFrom s k [] = Unit {0}
@@ -40,6 +47,8 @@ module _ {T O R : Type 0} {g : Ghosts T O R} where
     pub idle : v.holds ≡ false
     pub own : v.made ≡ map made callers
     pub fronts : v.heard ≡ map seen callers
+    pub told : v.lost ≡ true → SomeIsLost callers
+    pub tells : AllByRecursion (λ (c : Caller T O R g). is_lost c ≡ true → v.lost ≡ true) callers
 
 -- of `total` slots of a closed table, those below `count` hold a value, and the others were taken out
 abbrev pub HasSlotsBelow : List Bool → ℕ → ℕ → Type 0

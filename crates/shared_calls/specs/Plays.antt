@@ -1,6 +1,6 @@
 -- What each step tells its seat: a relation of the step, the seat before, the number found, and the seat after. Word p,
 -- the flag, is the word of the steps that speak of it.
-use Rattle.std.specs.Prelude.{◌≡◌, ◌≢◌, ℕ, ◌+◌, List, [], ◌∷◌, ◌++◌, drop, true, false, slice_index_or}
+use Rattle.std.specs.Prelude.{◌≡◌, ◌≢◌, ℕ, ◌+◌, List, [], ◌∷◌, ◌++◌, drop, true, false, ◌||◌, if◌then◌else◌, slice_index_or}
 use Rattle.std.specs.List.{AllByRecursion}
 use Rattle.atomic_table.specs.Table.{Me, Step, rest}
 use Rattle.shared_calls.specs.declared.view.Entry.{Entry}
@@ -77,9 +77,15 @@ module _ {O R : Type 0} where
   abbrev pub retiring : View O R → View O R
   retiring v = record v { request = Retired; made = own_calls v ∷ []; heard = v.seen ∷ [] }
 
-  -- a seat stands for the callers of its neighbour too
+  -- a seat stands for the callers of its neighbour too, and knows what they know
   abbrev pub gathering : View O R → View O R → View O R
-  gathering v w = record v { to = w.to; made = v.made ++ w.made; heard = v.heard ++ w.heard }
+  gathering v w = record v {
+    to = w.to;
+    made = v.made ++ w.made;
+    heard = v.heard ++ w.heard;
+    lost = v.lost || w.lost;
+    log = if v.lost then v.log else w.log;
+  }
 
 module _ {O R : Type 0} (object : SerialObject O R) where
   -- The caller has its reply, and has seen all calls so far: they go on from those that it saw before, and among those

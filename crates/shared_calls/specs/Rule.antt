@@ -73,6 +73,10 @@ module _ {O R : Type 0} where
     pub heard : AllByRecursion (StartsWith log) v.heard
     pub lost : v.lost ≡ true → (flag ≡ p + 1) × (log ≡ v.log)
 
+  -- the seat of some caller has found that the structure is lost
+  abbrev pub IsKnownToSome : List (View O R) → Type 0
+  IsKnownToSome views = (id : ℕ) × (v : View O R) × (get_elem? views id ≡ some v) × (v.from < v.to) × (v.lost ≡ true)
+
 module _ {T O R : Type 0} (object : SerialObject O R) (content : T → object.State) (fails : T → List O → Type 0) where
   -- The structure is lost: with the content after these calls, it failed to serve the calls that were asked next.
   pub record IsLost (log : List (Entry O R)) : Type 0 where
@@ -96,9 +100,10 @@ module _ {T O R : Type 0} (object : SerialObject O R) (content : T → object.St
     pub home : slice_index s.words p ≡ 0
         → (t : T) × (rs : _) × (get_elem? s.homes p ≡ some (some (Whole t rs))) × (content t ≡ state_after object log)
     pub none_taken : slice_index s.words p ≡ 0 → (w : ℕ) → w < p → IsFree (stage w)
-    -- where the structure is lost, each call that was served is answered
+    -- where the structure is lost, each call that was served is answered, and some caller knows that it is lost
     pub none_owed : slice_index s.words p ≡ p + 1 → (w : ℕ) (op : O) (reply : R) → w < p → stage w ≢ owed op reply
     pub cause : slice_index s.words p ≡ p + 1 → IsLost log
+    pub told : slice_index s.words p ≡ p + 1 → IsKnownToSome s.views
     pub sees : (id : ℕ) (v : View O R) → get_elem? s.views id ≡ some v → Sees p (slice_index s.words p) log v
     pub stands : (id : ℕ) (v : View O R) (w : ℕ) → get_elem? s.views id ≡ some v → v.from ≤ w → w < v.to
         → (w < p) × Stands p (slice_index s.words p) log stage (seat w) id v w

@@ -1,12 +1,12 @@
 //! The end of a shared structure: all callers come back, and with them the structure.
-ghost use Rattle.std.specs.Prelude.{◌≡◌, ℕ, ◌+◌, ◌<◌, List, [], false, IfSome, IfNone};
+ghost use Rattle.std.specs.Prelude.{◌≡◌, ℕ, ◌+◌, ◌<◌, List, [], false, IfSome, IfNone, OnSome};
 ghost use Rattle.std.specs.Mem.Slots.{slots_len, slots_filled};
 ghost use Rattle.shared_calls.specs.declared.view.Entry.{Entry as EntryOf};
 ghost use Rattle.shared_calls.specs.Logs.{state_after};
 ghost use Rattle.shared_calls.specs.Plays.{retiring};
 ghost use Rattle.shared_calls.specs.Views.{IsCallerOf, number_of};
 ghost use Rattle.shared_calls.specs.Rule.{IsLost};
-ghost use Rattle.shared_calls.specs.Closing.{AreCallersOf, AreAllCalls, Gathers, HasSlotsBelow};
+ghost use Rattle.shared_calls.specs.Closing.{AreCallersOf, AreAllCalls, SomeIsLost, NoneIsLost, Gathers, HasSlotsBelow};
 
 use crate::combined::Combined;
 use crate::rule::{Gathering, Parting, Retire};
@@ -71,7 +71,9 @@ impl<T: Combined> Shared<T> {
         requires callers { AreCallersOf self callers.items }
         ensures kept { IfSome result (λ structure. (log : List (EntryOf T.Op T.Reply)) × AreAllCalls T.object callers.items log
             × (T.content structure ≡ state_after T.object log)) }
+        ensures sound { OnSome result (NoneIsLost callers.items) }
         ensures lost { IfNone result ((log : List (EntryOf T.Op T.Reply)) × AreAllCalls T.object callers.items log × IsLost T.object T.content T.fails log) }
+        ensures told { IfNone result (SomeIsLost callers.items) }
     {
         let seat = self.gather(callers);
         let count = self.callers;

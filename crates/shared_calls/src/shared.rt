@@ -62,6 +62,7 @@ impl<T: Combined> Drop for Caller<T> {
 pub struct Note<T: Combined> {
     pub(crate) seat: Seat<Slot<T, T::Op, T::Reply>, View<T::Op, T::Reply>>,
     ghost bare: { seat.me.1 ≡ [] },
+    ghost none: { seat.me.0.to ≡ 0 },
 }
 
 impl<T: Combined> Drop for Note<T> {

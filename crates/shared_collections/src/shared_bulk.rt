@@ -1,9 +1,9 @@
 //! A set whose calls carry many keys, and which threads share.
-ghost use Rattle.std.specs.Prelude.{◌≡◌, ◌≤◌, false, true, length, IfOk, IfErr, IfSome, IfNone, OnOk};
+ghost use Rattle.std.specs.Prelude.{◌≡◌, ◌≤◌, false, true, length, IfOk, IfErr, IfSome, IfNone, OnSome, OnOk};
 ghost use Rattle.shared_calls.specs.Logs.{state_after};
 ghost use Rattle.shared_calls.specs.Callers.{IsServed, IsUnserved};
 ghost use Rattle.shared_calls.specs.Views.{AreNewCallers, IsCallerOf, IfRefused, IfLost, number_of_callers, number_of, made, seen, is_lost};
-ghost use Rattle.shared_calls.specs.Closing.{AreCallersOf, AreAllCalls};
+ghost use Rattle.shared_calls.specs.Closing.{AreCallersOf, AreAllCalls, SomeIsLost, NoneIsLost};
 ghost use Rattle.shared_collections.specs.Bulks.{asked, bulk_set};
 
 use crate::bulk::{Bulk, asked};
@@ -117,7 +117,9 @@ impl SharedBulkSet {
     pub fn close(self, callers: Vec<Caller<Bulk>>) -> Option<BulkSet>
         requires callers { AreCallersOf self.shared callers.items }
         ensures kept { IfSome result (λ set. (log : _) × AreAllCalls bulk_set callers.items log × (set ≡ state_after bulk_set log)) }
+        ensures sound { OnSome result (NoneIsLost callers.items) }
         ensures lost { IfNone result ((log : _) × AreAllCalls bulk_set callers.items log) }
+        ensures told { IfNone result (SomeIsLost callers.items) }
     {
         let SharedBulkSet { shared } = self;
         match shared.close(callers) {

@@ -1,9 +1,9 @@
 //! A FIFO queue that threads share.
-ghost use Rattle.std.specs.Prelude.{◌≡◌, ◌≤◌, false, true, IfOk, IfErr, IfSome, IfNone, OnOk};
+ghost use Rattle.std.specs.Prelude.{◌≡◌, ◌≤◌, false, true, IfOk, IfErr, IfSome, IfNone, OnSome, OnOk};
 ghost use Rattle.shared_calls.specs.Logs.{state_after};
 ghost use Rattle.shared_calls.specs.Callers.{IsServed, IsUnserved};
 ghost use Rattle.shared_calls.specs.Views.{AreNewCallers, IsCallerOf, IfRefused, IfLost, number_of_callers, number_of, made, seen, is_lost};
-ghost use Rattle.shared_calls.specs.Closing.{AreCallersOf, AreAllCalls};
+ghost use Rattle.shared_calls.specs.Closing.{AreCallersOf, AreAllCalls, SomeIsLost, NoneIsLost};
 ghost use Rattle.shared_collections.specs.Fifos.{fifo};
 
 use crate::fifo::{Fifo, FifoOp, FifoReply};
@@ -95,7 +95,9 @@ impl SharedFifo {
     pub fn close(self, callers: Vec<Caller<Fifo>>) -> Option<FifoQueue>
         requires callers { AreCallersOf self.shared callers.items }
         ensures kept { IfSome result (λ queue. (log : _) × AreAllCalls fifo callers.items log × (queue ≡ state_after fifo log)) }
+        ensures sound { OnSome result (NoneIsLost callers.items) }
         ensures lost { IfNone result ((log : _) × AreAllCalls fifo callers.items log) }
+        ensures told { IfNone result (SomeIsLost callers.items) }
     {
         let SharedFifo { shared } = self;
         match shared.close(callers) {

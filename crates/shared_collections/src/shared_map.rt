@@ -1,9 +1,9 @@
 //! A map with rank and select that threads share.
-ghost use Rattle.std.specs.Prelude.{◌≡◌, ◌≤◌, false, true, IfOk, IfErr, IfSome, IfNone, OnOk};
+ghost use Rattle.std.specs.Prelude.{◌≡◌, ◌≤◌, false, true, IfOk, IfErr, IfSome, IfNone, OnSome, OnOk};
 ghost use Rattle.shared_calls.specs.Logs.{state_after};
 ghost use Rattle.shared_calls.specs.Callers.{IsServed, IsUnserved};
 ghost use Rattle.shared_calls.specs.Views.{AreNewCallers, IsCallerOf, IfRefused, IfLost, number_of_callers, number_of, made, seen, is_lost};
-ghost use Rattle.shared_calls.specs.Closing.{AreCallersOf, AreAllCalls};
+ghost use Rattle.shared_calls.specs.Closing.{AreCallersOf, AreAllCalls, SomeIsLost, NoneIsLost};
 ghost use Rattle.shared_collections.specs.Maps.{ranked_map};
 
 use crate::ranked::{RankedMap, RankedOp, RankedReply};
@@ -207,7 +207,9 @@ impl SharedMap {
     pub fn close(self, callers: Vec<Caller<RankedMap>>) -> Option<RankBook>
         requires callers { AreCallersOf self.shared callers.items }
         ensures kept { IfSome result (λ map. (log : _) × AreAllCalls ranked_map callers.items log × (map ≡ state_after ranked_map log)) }
+        ensures sound { OnSome result (NoneIsLost callers.items) }
         ensures lost { IfNone result ((log : _) × AreAllCalls ranked_map callers.items log) }
+        ensures told { IfNone result (SomeIsLost callers.items) }
     {
         let SharedMap { shared } = self;
         match shared.close(callers) {

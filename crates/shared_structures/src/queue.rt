@@ -1,12 +1,12 @@
 //! A priority queue that threads share.
-ghost use Rattle.std.specs.Prelude.{◌≡◌, ◌≤◌, List, [], length, false, ⊤, Some, None, IfOk, IfErr, OnOk, OnErr, IfSome, IfNone};
+ghost use Rattle.std.specs.Prelude.{◌≡◌, ◌≤◌, List, [], length, false, ⊤, Some, None, IfOk, IfErr, OnOk, OnErr, IfSome, IfNone, OnSome};
 ghost use Rattle.std.proofs.Props.{props};
 ghost use Rattle.shared_calls.specs.declared.view.Entry.{Entry as EntryOf};
 ghost use Rattle.shared_calls.specs.Serial.{IsServedInSomeOrder};
 ghost use Rattle.shared_calls.specs.Logs.{state_after};
 ghost use Rattle.shared_calls.specs.Callers.{IsServed};
 ghost use Rattle.shared_calls.specs.Views.{AreNewCallers, IsCallerOf, number_of_callers, number_of, made, seen, is_lost};
-ghost use Rattle.shared_calls.specs.Closing.{AreCallersOf, AreAllCalls};
+ghost use Rattle.shared_calls.specs.Closing.{AreCallersOf, AreAllCalls, SomeIsLost, NoneIsLost};
 ghost use Rattle.shared_structures.specs.declared.queue.QueueOp.{QueueOp as OpOf};
 ghost use Rattle.shared_structures.specs.declared.queue.QueueReply.{QueueReply as ReplyOf};
 ghost use Rattle.shared_structures.specs.Failures.{HasFailed};
@@ -172,7 +172,9 @@ impl SharedQueue {
     pub fn close(self, callers: Vec<Caller<CombinedQueue>>) -> Option<Queue>
         requires callers { AreCallersOf self.shared callers.items }
         ensures kept { IfSome result (λ given. (log : List (EntryOf OpOf ReplyOf)) × AreAllCalls queue callers.items log × (given ≡ state_after queue log)) }
+        ensures sound { OnSome result (NoneIsLost callers.items) }
         ensures lost { IfNone result ((log : List (EntryOf OpOf ReplyOf)) × AreAllCalls queue callers.items log) }
+        ensures told { IfNone result (SomeIsLost callers.items) }
     {
         let SharedQueue { shared } = self;
         let CombinedQueue { queue } = shared.close(callers)?;

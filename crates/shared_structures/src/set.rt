@@ -1,12 +1,12 @@
 //! An ordered set that threads share.
-ghost use Rattle.std.specs.Prelude.{◌≡◌, ◌≤◌, List, [], length, false, ⊤, Some, None, IfOk, IfErr, OnOk, OnErr, IfSome, IfNone};
+ghost use Rattle.std.specs.Prelude.{◌≡◌, ◌≤◌, List, [], length, false, ⊤, Some, None, IfOk, IfErr, OnOk, OnErr, IfSome, IfNone, OnSome};
 ghost use Rattle.std.proofs.Props.{props};
 ghost use Rattle.shared_calls.specs.declared.view.Entry.{Entry as EntryOf};
 ghost use Rattle.shared_calls.specs.Serial.{IsServedInSomeOrder};
 ghost use Rattle.shared_calls.specs.Logs.{state_after};
 ghost use Rattle.shared_calls.specs.Callers.{IsServed};
 ghost use Rattle.shared_calls.specs.Views.{AreNewCallers, IsCallerOf, number_of_callers, number_of, made, seen, is_lost};
-ghost use Rattle.shared_calls.specs.Closing.{AreCallersOf, AreAllCalls};
+ghost use Rattle.shared_calls.specs.Closing.{AreCallersOf, AreAllCalls, SomeIsLost, NoneIsLost};
 ghost use Rattle.shared_structures.specs.declared.set.SetOp.{SetOp as OpOf};
 ghost use Rattle.shared_structures.specs.declared.set.SetReply.{SetReply as ReplyOf};
 ghost use Rattle.shared_structures.specs.Failures.{HasFailed};
@@ -224,7 +224,9 @@ impl SharedSet {
     pub fn close(self, callers: Vec<Caller<CombinedSet>>) -> Option<TreeSet>
         requires callers { AreCallersOf self.shared callers.items }
         ensures kept { IfSome result (λ given. (log : List (EntryOf OpOf ReplyOf)) × AreAllCalls set callers.items log × (given ≡ state_after set log)) }
+        ensures sound { OnSome result (NoneIsLost callers.items) }
         ensures lost { IfNone result ((log : List (EntryOf OpOf ReplyOf)) × AreAllCalls set callers.items log) }
+        ensures told { IfNone result (SomeIsLost callers.items) }
     {
         let SharedSet { shared } = self;
         let CombinedSet { set } = shared.close(callers)?;

@@ -1,12 +1,12 @@
 //! A stack that threads share.
-ghost use Rattle.std.specs.Prelude.{◌≡◌, ◌≤◌, List, [], length, false, ⊤, Some, None, IfOk, IfErr, OnOk, OnErr, IfSome, IfNone};
+ghost use Rattle.std.specs.Prelude.{◌≡◌, ◌≤◌, List, [], length, false, ⊤, Some, None, IfOk, IfErr, OnOk, OnErr, IfSome, IfNone, OnSome};
 ghost use Rattle.std.proofs.Props.{props};
 ghost use Rattle.shared_calls.specs.declared.view.Entry.{Entry as EntryOf};
 ghost use Rattle.shared_calls.specs.Serial.{IsServedInSomeOrder};
 ghost use Rattle.shared_calls.specs.Logs.{state_after};
 ghost use Rattle.shared_calls.specs.Callers.{IsServed};
 ghost use Rattle.shared_calls.specs.Views.{AreNewCallers, IsCallerOf, number_of_callers, number_of, made, seen, is_lost};
-ghost use Rattle.shared_calls.specs.Closing.{AreCallersOf, AreAllCalls};
+ghost use Rattle.shared_calls.specs.Closing.{AreCallersOf, AreAllCalls, SomeIsLost, NoneIsLost};
 ghost use Rattle.shared_structures.specs.declared.stack.StackOp.{StackOp as OpOf};
 ghost use Rattle.shared_structures.specs.declared.stack.StackReply.{StackReply as ReplyOf};
 ghost use Rattle.shared_structures.specs.Failures.{HasFailed};
@@ -172,7 +172,9 @@ impl SharedStack {
     pub fn close(self, callers: Vec<Caller<CombinedStack>>) -> Option<Stack>
         requires callers { AreCallersOf self.shared callers.items }
         ensures kept { IfSome result (λ given. (log : List (EntryOf OpOf ReplyOf)) × AreAllCalls stack callers.items log × (given.items ≡ state_after stack log)) }
+        ensures sound { OnSome result (NoneIsLost callers.items) }
         ensures lost { IfNone result ((log : List (EntryOf OpOf ReplyOf)) × AreAllCalls stack callers.items log) }
+        ensures told { IfNone result (SomeIsLost callers.items) }
     {
         let SharedStack { shared } = self;
         let CombinedStack { stack } = shared.close(callers)?;

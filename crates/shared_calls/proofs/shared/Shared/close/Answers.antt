@@ -4,7 +4,7 @@ use mathlib.Core.Option.{some-injective}
 use Rattle.atomic_table.specs.Table.{Final, Seen}
 use Rattle.shared_calls.specs.Rule.{Keeps}
 use Rattle.shared_calls.proofs.InHand.{same_whole}
-use Rattle.shared_calls.proofs.Closings.{word_at, all_calls, structure_there, structure_lost}
+use Rattle.shared_calls.proofs.Closings.{word_at, all_calls, structure_there, structure_lost, some_lost, none_lost}
 use Rattle.shared_calls.proofs.shared.Shared.close.Goals as goal
 
 pub returns-then-flag-ne0-clause-lost : goal.returns-then-flag-ne0-clause-lost
@@ -20,6 +20,17 @@ returns-then-flag-ne0-clause-lost g c =
       structure_lost g.T.Combined.object g.T.Combined.content g.T.Combined.fails s.callers seat.id c.args.callers.items seat.me.0 ws xs c.requires.callers.count c.gather-seat.ensures.gathers final
           (λ free. c.if-flag-ne0.true (sym held ∙ free)) s.some.0,
     )
+
+pub returns-then-flag-ne0-clause-told : goal.returns-then-flag-ne0-clause-told
+returns-then-flag-ne0-clause-told g c =
+    let s = c.args.self in
+    let seat = c.gather-seat.result in
+    let ws = slots_items c.close_with-closed.result.words in
+    let xs = slots_items c.close_with-closed.result.slots in
+    let final = subst (λ (q : ℕ). Final (Seen (Keeps g.T.Combined.object g.T.Combined.content g.T.Combined.fails q) seat.id seat.me.0) ws xs) (c.into_table.ensures.1 ∙ s.key) c.close_with-closed.ensures.values.2 in
+    let held = word_at ws s.callers c.word-flag.result c.word-flag.ensures in
+    some_lost g.T.Combined.object g.T.Combined.content g.T.Combined.fails s.callers seat.id c.args.callers.items seat.me.0 ws xs c.requires.callers.count c.gather-seat.ensures.gathers final
+    (λ free. c.if-flag-ne0.true (sym held ∙ free)) s.some.0
 
 pub unreachable-requires : goal.unreachable-requires
 unreachable-requires g c =
@@ -47,3 +58,13 @@ returns-clause-kept g c =
       all_calls g.T.Combined.object g.T.Combined.content g.T.Combined.fails s.callers seat.id c.args.callers.items seat.me.0 ws xs c.requires.callers.count c.gather-seat.ensures.gathers final,
       ap g.T.Combined.content same.0 ∙ there.3,
     )
+
+pub returns-clause-sound : goal.returns-clause-sound
+returns-clause-sound g c =
+    let s = c.args.self in
+    let seat = c.gather-seat.result in
+    let ws = slots_items c.close_with-closed.result.words in
+    let xs = slots_items c.close_with-closed.result.slots in
+    let final = subst (λ (q : ℕ). Final (Seen (Keeps g.T.Combined.object g.T.Combined.content g.T.Combined.fails q) seat.id seat.me.0) ws xs) (c.into_table.ensures.1 ∙ s.key) c.close_with-closed.ensures.values.2 in
+    none_lost g.T.Combined.object g.T.Combined.content g.T.Combined.fails s.callers seat.id c.args.callers.items seat.me.0 ws xs c.requires.callers.count c.gather-seat.ensures.gathers final
+    (word_at ws s.callers c.word-flag.result c.word-flag.ensures ∙ c.if-flag-ne0.false)

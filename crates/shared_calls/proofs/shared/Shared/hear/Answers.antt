@@ -16,7 +16,7 @@ join_seat-requires g c =
       search rules,
       search rules,
       omega (arith, sized),
-      hears_note g.T.Combined.object g.T.Combined.content g.T.Combined.fails c.args.self.now.table.shared.key _ _ c.args.caller.now.seat.me.0 _,
+      hears_note g.T.Combined.object g.T.Combined.content g.T.Combined.fails c.args.self.now.table.shared.key _ _ c.args.caller.now.seat.me.0 _ (ap (λ m. m.0.to) c.into_seat-seat.ensures.2 ∙ c.args.note.none),
     )
 
 pub load-requires : goal.load-requires

@@ -3,10 +3,11 @@ use Rattle.std.specs.Prelude.{ℕ, ◌≡◌, ◌<◌, ◌≤◌, vec_len, vec_c
 use Rattle.shared_calls.specs.declared.shared.Shared.{Shared}
 use Rattle.shared_calls.specs.declared.shared.Caller.{Caller}
 use Rattle.shared_calls.specs.declared.shared.Note.{Note}
-use Rattle.shared_calls.specs.declared.shared.Room.{Room}
 use Rattle.shared_calls.specs.declared.shared.Failed.{Failed}
 use Rattle.shared_calls.specs.declared.shared.Failed.TheVariants.{Refused, Lost}
+use Rattle.std.specs.declared.alloc.Global.{Global}
 use Rattle.std.specs.declared.option.Option.{Option}
+use Rattle.std.specs.declared.vec.Vec.{Vec}
 use Rattle.shared_calls.specs.declared.view.Entry.{Entry}
 use Rattle.shared_calls.specs.declared.combined.Combined.{Ghosts}
 use Rattle.shared_calls.specs.Plays.{own_calls}
@@ -24,10 +25,9 @@ module _ {O R : Type 0} where
   IfLost P (Refused op) = Unit {0}
   IfLost P (Lost reply) = P reply
 
--- empty, with room for the calls of n callers
-abbrev pub HasRoom : {O : Type 0} → ℕ → Room O → Type 0
-HasRoom n room = (room.callers.items ≡ []) × (room.ops.items ≡ []) × (vec_len room.callers ≡ 0) × (vec_len room.ops ≡ 0)
-    × (n ≤ vec_capacity room.callers) × (n ≤ vec_capacity room.ops)
+-- empty, with room for the operations of n callers
+abbrev pub HasRoom : {O : Type 0} → ℕ → Vec O Global → Type 0
+HasRoom n ops = (ops.items ≡ []) × (vec_len ops ≡ 0) × (n ≤ vec_capacity ops)
 
 module _ {T O R : Type 0} {g : Ghosts T O R} where
   abbrev pub number_of : Caller T O R g → ℕ

@@ -12,13 +12,15 @@ ghost use Rattle.shared_calls.specs.Views.{IsCallerOf, HasRoom, IfRefused, IfLos
 
 use crate::combined::Combined;
 use crate::helper::{Alone, Helper};
-use crate::shared::{Caller, Failed, Room, Shared};
+use crate::shared::{Caller, Failed, Shared};
 use crate::steps::Won;
 use crate::view::{Slot, View};
+use arrayvec::ArrayVec;
 use atomic_table::Seat;
 use crossbeam_utils::Backoff;
 use std::alloc::AllocError;
 use std::sync::Wait;
+use std::thread;
 
 impl<T: Combined> Caller<T> {
     /// Whether the caller has found that the structure is lost.
@@ -30,26 +32,24 @@ impl<T: Combined> Caller<T> {
 }
 
 impl<T: Combined> Shared<T> {
-    /// Room for a batch of all callers.
-    fn room(&self) -> Result<Room<T::Op>, AllocError>
+    /// Room for the operations of a batch of all callers.
+    fn room(&self) -> Result<Vec<T::Op>, AllocError>
         ensures { IfOk result (HasRoom self.now.callers) }
     {
-        let callers = Vec::with_capacity(self.alloc, self.callers)?;
-        let ops = Vec::with_capacity(self.alloc, self.callers)?;
-        Ok(Room { callers, ops })
+        Vec::with_capacity(self.alloc, self.callers)
     }
 
     /// Takes the calls that are posted: their callers and their operations.
     fn collect(
         &self,
         seat: &mut Seat<Slot<T, T::Op, T::Reply>, View<T::Op, T::Reply>>,
-        room: Room<T::Op>,
-    ) -> (Vec<usize>, Vec<T::Op>)
+        mut ops: Vec<T::Op>,
+    ) -> (ArrayVec<u8, 32>, Vec<T::Op>)
         requires table { seat.old.table_id ≡ self.now.table.shared.table_id }
         requires holds { (seat.old.me.0.to ≡ seat.old.me.0.from + 1) × (seat.old.me.0.holds ≡ true) }
         requires begins { (seat.old.me.0.looks ≡ 0) × (seat.old.me.0.taken ≡ []) × (seat.old.me.0.owed ≡ []) }
         requires slot { seat.old.me.1 ≡ (self.now.callers, Vacant) ∷ [] }
-        requires room { HasRoom self.now.callers room }
+        requires room { HasRoom self.now.callers ops }
         ensures table { seat.new.table_id ≡ seat.old.table_id }
         ensures below { AllByRecursion (λ u. u < self.now.callers) result.0.items }
         ensures few { length result.1.items ≤ 32 }
@@ -57,13 +57,11 @@ impl<T: Combined> Shared<T> {
             × (seat.new.me ≡ (collected seat.old.me.0 looks taken, (self.now.callers, Vacant) ∷ in_hand (map (λ a. a.caller) taken)))
             × (result.0.items ≡ map (λ a. a.caller) taken) × (result.1.items ≡ map (λ a. a.op) taken) }
     {
-        let Room { callers, ops } = room;
-        let mut callers = callers;
-        let mut ops = ops;
+        let mut callers = ArrayVec::new();
         for caller in 0..self.callers {
             match self.look(seat, caller) {
                 Some(op) => {
-                    callers.push_reserved(caller);
+                    callers.push(caller as u8);
                     ops.push_reserved(op);
                 }
                 None => {}
@@ -76,7 +74,7 @@ impl<T: Combined> Shared<T> {
     fn answer_all(
         &self,
         seat: &mut Seat<Slot<T, T::Op, T::Reply>, View<T::Op, T::Reply>>,
-        callers: Vec<usize>,
+        callers: ArrayVec<u8, 32>,
         replies: Vec<T::Reply>,
     )
         requires table { seat.old.table_id ≡ self.now.table.shared.table_id }
@@ -87,9 +85,10 @@ impl<T: Combined> Shared<T> {
         ensures table { seat.new.table_id ≡ seat.old.table_id }
         ensures answered { (slot : _) → seat.old.me.1 ≡ in_hand callers.items ++ slot ∷ [] → seat.new.me ≡ (owing seat.old.me.0 [], slot ∷ []) }
     {
+        let numbers = callers.as_slice();
         let mut i = 0;
         for reply in replies {
-            self.answer(seat, callers[i], reply);
+            self.answer(seat, numbers[i] as usize, reply);
             i += 1;
         }
     }
@@ -101,20 +100,20 @@ impl<T: Combined> Shared<T> {
         helper: &mut H,
         seat: &mut Seat<Slot<T, T::Op, T::Reply>, View<T::Op, T::Reply>>,
         structure: T,
-        room: Room<T::Op>,
+        ops: Vec<T::Op>,
     ) -> Result<(), AllocError>
         requires table { seat.old.table_id ≡ self.now.table.shared.table_id }
         requires holds { (seat.old.me.0.to ≡ seat.old.me.0.from + 1) × (seat.old.me.0.holds ≡ true) }
         requires begins { (seat.old.me.0.looks ≡ 0) × (seat.old.me.0.taken ≡ []) × (seat.old.me.0.owed ≡ []) }
         requires slot { seat.old.me.1 ≡ (self.now.callers, Vacant) ∷ [] }
         requires content { T.content structure ≡ state_after T.object seat.old.me.0.log }
-        requires room { HasRoom self.now.callers room }
+        requires room { HasRoom self.now.callers ops }
         ensures table { seat.new.table_id ≡ seat.old.table_id }
         ensures ok { OnOk result (seat.new.me ≡ (releasing seat.old.me.0, [])) }
         ensures err { OnErr result ((looks : ℕ) × (taken : List (AskedOf T.Op)) × (slots : _) × (seat.new.me ≡ (collected seat.old.me.0 looks taken, slots))) }
         ensures failed { OnErr result (IsLost T.object T.content T.fails seat.old.me.0.log) }
     {
-        let (callers, ops) = self.collect(seat, room);
+        let (callers, ops) = self.collect(seat, ops);
         let (structure, replies) = helper.serve(rt, self.alloc, structure, ops)?;
         let replies = self.publish(seat, structure, replies);
         self.answer_all(seat, callers, replies);
@@ -168,7 +167,7 @@ impl<T: Combined> Shared<T> {
         seat: &mut Seat<Slot<T, T::Op, T::Reply>, View<T::Op, T::Reply>>,
         number: usize,
         structure: T,
-        room: Room<T::Op>,
+        ops: Vec<T::Op>,
     ) -> Result<T::Reply, Option<T::Reply>>
         requires table { seat.old.table_id ≡ self.now.table.shared.table_id }
         requires own { (seat.old.me.0.from ≡ number) × (seat.old.me.0.to ≡ number + 1) × (number < self.now.callers) }
@@ -176,13 +175,13 @@ impl<T: Combined> Shared<T> {
         requires begins { (seat.old.me.0.looks ≡ 0) × (seat.old.me.0.taken ≡ []) × (seat.old.me.0.owed ≡ []) }
         requires slot { seat.old.me.1 ≡ (self.now.callers, Vacant) ∷ [] }
         requires content { T.content structure ≡ state_after T.object seat.old.me.0.log }
-        requires room { HasRoom self.now.callers room }
+        requires room { HasRoom self.now.callers ops }
         ensures table { seat.new.table_id ≡ seat.old.table_id }
         ensures left { IfOk result (λ reply. (w : ViewOf T.Op T.Reply) × IsLeft T.object (releasing seat.old.me.0) reply w × (seat.new.me ≡ (w, (number, Vacant) ∷ []))) }
         ensures lost { IfErr result (λ reply. HasStopped number seat.new.me.0 × IsLost T.object T.content T.fails seat.new.me.0.log
             × IfSome reply (λ reply. IsAnswered T.object seat.old.me.0 reply seat.new.me.0) × IfNone reply (IsRefused T.object seat.old.me.0 seat.new.me.0)) }
     {
-        match self.serve(rt, helper, seat, structure, room) {
+        match self.serve(rt, helper, seat, structure, ops) {
             Ok(()) => Ok(self.take(rt, seat, number)),
             Err(AllocError) => {
                 self.lose(seat);
@@ -198,31 +197,36 @@ impl<T: Combined> Shared<T> {
         helper: &mut H,
         seat: &mut Seat<Slot<T, T::Op, T::Reply>, View<T::Op, T::Reply>>,
         number: usize,
-        room: Room<T::Op>,
+        ops: Vec<T::Op>,
     ) -> Result<T::Reply, Option<T::Reply>>
         requires table { seat.old.table_id ≡ self.now.table.shared.table_id }
         requires own { (seat.old.me.0.from ≡ number) × (seat.old.me.0.to ≡ number + 1) × (number < self.now.callers) }
         requires settled { (seat.old.me.0.holds ≡ false) × (seat.old.me ≡ (releasing seat.old.me.0, [])) }
-        requires room { HasRoom self.now.callers room }
+        requires room { HasRoom self.now.callers ops }
         ensures table { seat.new.table_id ≡ seat.old.table_id }
         ensures left { IfOk result (λ reply. (w : ViewOf T.Op T.Reply) × IsLeft T.object seat.old.me.0 reply w × (seat.new.me ≡ (w, (number, Vacant) ∷ []))) }
         ensures lost { IfErr result (λ reply. HasStopped number seat.new.me.0 × IsLost T.object T.content T.fails seat.new.me.0.log
             × IfSome reply (λ reply. IsAnswered T.object seat.old.me.0 reply seat.new.me.0) × IfNone reply (IsRefused T.object seat.old.me.0 seat.new.me.0)) }
     {
         let backoff = Backoff::new();
+        let mut looks = 0;
         for _ in rt.forever() {
-            if let Some(reply) = self.leave(seat, number) {
-                return Ok(reply);
+            if self.table.shared.peek(number) == 2 {
+                return Ok(self.take(rt, seat, number));
             }
             match self.win(seat, number) {
                 Won::Flag(structure) => {
-                    return self.lead(rt, helper, seat, number, structure, room);
+                    return self.lead(rt, helper, seat, number, structure, ops);
                 }
                 Won::Held(holder) => {
                     if helper.help(holder) {
                         backoff.reset();
+                        looks = 0;
+                    } else if looks < 4 {
+                        backoff.spin();
+                        looks += 1;
                     } else {
-                        backoff.snooze();
+                        thread::yield_now();
                     }
                 }
                 Won::Lost => return Err(self.stop(seat, number)),
@@ -276,12 +280,12 @@ impl<T: Combined> Shared<T> {
         ensures unserved { IfErr result (IfLost (λ last. IfNone last (IsUnserved T.object (number_of caller.old) (made caller.old) (seen caller.old) (made caller.new) (seen caller.new)))) }
         ensures cause { IfErr result (IfLost (λ last. (log : _) × StartsWith log (seen caller.new) × IsLost T.object T.content T.fails log)) }
     {
-        let room = match self.room() {
-            Ok(room) => room,
+        let ops = match self.room() {
+            Ok(ops) => ops,
             Err(AllocError) => return Err(Failed::Refused(op)),
         };
         self.post(&mut caller.seat, caller.number, op);
-        let served = self.wait(rt, helper, &mut caller.seat, caller.number, room);
+        let served = self.wait(rt, helper, &mut caller.seat, caller.number, ops);
         match served {
             Ok(reply) => Ok(reply),
             Err(last) => {

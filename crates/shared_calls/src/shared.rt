@@ -118,10 +118,3 @@ pub enum Failed<O, R> {
     /// reply, or it was not served.
     Lost(Option<R>),
 }
-
-/// Room for a batch.
-#[derive(Drop)]
-pub(crate) struct Room<O> {
-    pub(crate) callers: Vec<usize>,
-    pub(crate) ops: Vec<O>,
-}

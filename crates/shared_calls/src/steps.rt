@@ -68,7 +68,7 @@ impl<T: Combined> Shared<T> {
         }
     }
 
-    /// Wins the flag, if it is free.
+    /// Wins the flag, if a look finds it free.
     pub(crate) fn win(
         &self,
         seat: &mut Seat<Slot<T, T::Op, T::Reply>, View<T::Op, T::Reply>>,
@@ -86,8 +86,13 @@ impl<T: Combined> Shared<T> {
     {
         let shared = &self.table.shared;
         let flag = self.callers;
+        let lost = flag as u64 + 1;
+        let seen = shared.peek(flag);
+        if seen != 0 && seen != lost {
+            return Won::Held(seen as usize - 1);
+        }
         let found = shared.compare_exchange::<Win<T>>(seat, flag, 0, number as u64 + 1);
-        if found == flag as u64 + 1 {
+        if found == lost {
             return Won::Lost;
         }
         if found != 0 {

@@ -1,4 +1,4 @@
-use Rattle.std.proofs.Common.{refl, sym, ap, ◌∙◌, ◌≡◌, ℕ, ◌+◌, ◌<◌, List, [], ◌∷◌, ◌++◌, map, drop, length, arith}
+use Rattle.std.proofs.Common.{refl, sym, ap, ◌∙◌, ◌≡◌, ℕ, ◌+◌, ◌<◌, List, [], ◌∷◌, ◌++◌, map, drop, length, get_or, arith}
 use Rattle.atomic_table.specs.Table.{rest}
 use Rattle.shared_calls.specs.declared.view.Slot.TheVariants.{Vacant}
 use Rattle.shared_calls.specs.Logs.{entry}
@@ -9,13 +9,13 @@ use Rattle.shared_calls.proofs.InHand.{first_in}
 use Rattle.shared_calls.proofs.Loops.{split_left, none_left}
 use Rattle.shared_calls.proofs.shared.Shared.answer_all.Goals as goal
 
-pub index-requires : goal.index-requires
-index-requires g c =
+pub bounds-numbers-i : goal.bounds-numbers-i
+bounds-numbers-i g c =
     let i = c.loop-reply.invariant in
     let t = split_left i.left c.loop-reply.i c.args.callers.items c.in-Some.reply c.next.new.self.rest.items i.callers (i.replies ∙ c.in-Some.ensures.steps.0) in
     let less = t.5 in
-    let ok = c.args.callers.ok in
-    omega (arith, less, ok)
+    let same = ap (λ (l : List ℕ). length l) c.as_slice-numbers.ensures.value in
+    omega (arith, less, same)
 
 pub answer-requires-clause-table : goal.answer-requires-clause-table
 answer-requires-clause-table g c = c.loop-reply.invariant.table ∙ c.requires.table
@@ -29,17 +29,21 @@ pub answer-requires-clause-owed : goal.answer-requires-clause-owed
 answer-requires-clause-owed g c =
     let i = c.loop-reply.invariant in
     let t = split_left i.left c.loop-reply.i c.args.callers.items c.in-Some.reply c.next.new.self.rest.items i.callers (i.replies ∙ c.in-Some.ensures.steps.0) in
-    (t.0.op, t.1, ap (λ v. v.owed) i.owed ∙ (t.2 ∙ (ap (λ (n : ℕ). entry n t.0.op t.0.reply ∷ t.1) (t.6 c.index.result.now ∙ sym c.index.ensures) ∙ ap (λ r. entry c.index.result.now t.0.op r ∷ t.1) t.3)))
+    let caller = get_or c.as_slice-numbers.result.now c.loop-reply.i 0 in
+    let same : t.0.caller ≡ caller = t.6 0 ∙ sym (ap (λ l. get_or l c.loop-reply.i 0) c.as_slice-numbers.ensures.value) in
+    (t.0.op, t.1, ap (λ v. v.owed) i.owed ∙ (t.2 ∙ (ap (λ (n : ℕ). entry n t.0.op t.0.reply ∷ t.1) same ∙ ap (λ r. entry caller t.0.op r ∷ t.1) t.3)))
 
 pub answer-requires-clause-slot : goal.answer-requires-clause-slot
 answer-requires-clause-slot g c =
     let i = c.loop-reply.invariant in
     let t = split_left i.left c.loop-reply.i c.args.callers.items c.in-Some.reply c.next.new.self.rest.items i.callers (i.replies ∙ c.in-Some.ensures.steps.0) in
+    let caller = get_or c.as_slice-numbers.result.now c.loop-reply.i 0 in
+    let same : t.0.caller ≡ caller = t.6 0 ∙ sym (ap (λ l. get_or l c.loop-reply.i 0) c.as_slice-numbers.ensures.value) in
     let slot = c.requires.slot in
     let hand = i.slots slot.0 slot.1 ∙ (ap (λ l. in_hand (map (λ e. e.caller) l) ++ slot.0 ∷ []) t.2
-    ∙ ap (λ (n : ℕ). (n, Vacant) ∷ (in_hand (map (λ e. e.caller) t.1) ++ slot.0 ∷ [])) (t.6 c.index.result.now ∙ sym c.index.ensures)) in (
-      each_at (λ (u : ℕ). u < c.args.self.now.callers) c.args.callers.items c.index.result.now (c.loop-reply.i, t.5, sym c.index.ensures) c.requires.below,
-      first_in c.loop-reply.seat.me.1 c.index.result.now Vacant (in_hand (map (λ e. e.caller) t.1) ++ slot.0 ∷ []) hand,
+    ∙ ap (λ (n : ℕ). (n, Vacant) ∷ (in_hand (map (λ e. e.caller) t.1) ++ slot.0 ∷ [])) same) in (
+      each_at (λ (u : ℕ). u < c.args.self.now.callers) c.args.callers.items caller (c.loop-reply.i, t.5, sym (t.6 caller) ∙ same) c.requires.below,
+      first_in c.loop-reply.seat.me.1 caller Vacant (in_hand (map (λ e. e.caller) t.1) ++ slot.0 ∷ []) hand,
     )
 
 pub loop-reply-preserved : goal.loop-reply-preserved

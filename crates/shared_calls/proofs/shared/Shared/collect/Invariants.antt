@@ -1,5 +1,6 @@
 use Rattle.std.proofs.Common.{◌≡◌, ◌<◌, ◌≤◌, ℕ, List, ◌∷◌, length, map, vec_len, vec_capacity}
 use Rattle.std.specs.List.{AllByRecursion}
+use Rattle.arrayvec.specs.ArrayVec.{array_vec_len}
 use Rattle.shared_calls.specs.declared.view.Asked.{Asked}
 use Rattle.shared_calls.specs.declared.view.Slot.TheVariants.{Vacant}
 use Rattle.shared_calls.specs.Callers.{in_hand, collected}
@@ -16,5 +17,5 @@ invariant-loop-caller g l = record {
   ops : l.ops.items ≡ map (λ a. a.op) taken;
   below : AllByRecursion (λ u. u < l.self.callers) l.callers.items;
   few : length l.ops.items ≤ l.caller;
-  room : (vec_len l.callers ≤ l.caller) × (vec_len l.ops ≤ l.caller) × (l.self.callers ≤ vec_capacity l.callers) × (l.self.callers ≤ vec_capacity l.ops);
+  room : (array_vec_len l.callers ≤ l.caller) × (vec_len l.ops ≤ l.caller) × (l.self.callers ≤ vec_capacity l.ops);
 }

@@ -13,8 +13,9 @@ use std::alloc::Global;
 use std::sync::Wait;
 use worker_crew::{Crew, Me, Stop};
 
-/// One free turn of a worker, unless the root is done, and the backoff after it. Returns whether the worker goes on. If
-/// memory runs out in the turn, the worker sets the stop word to stop the others.
+/// One free turn of a worker. After a turn that did nothing the worker looks once at the root, and backs off unless that
+/// is done. Returns whether the worker goes on. If memory runs out in the turn, the worker sets the stop word to stop
+/// the others.
 fn turn<G: Pause, R: Wait>(
     rt: &R,
     alloc: Global,
@@ -28,12 +29,13 @@ fn turn<G: Pause, R: Wait>(
     ensures ready { result ≡ true → IsReady crew.now.table crew.now.decks crew.now.board me.new }
     ensures ended { result ≡ false → ((view me.new.pass).saw_done ≡ true) ⊎ KnowsStop (pass_view me.new.pass) }
 {
-    if crew.table.root_done(&mut me.pass) {
-        return false;
-    }
     match free_turn(rt, alloc, crew, me) {
         Ok(did) => {
-            back_off(backoff, matches!(did, Did::Nothing));
+            let nothing = matches!(did, Did::Nothing);
+            if nothing && crew.table.root_done(&mut me.pass) {
+                return false;
+            }
+            back_off(backoff, nothing);
             true
         }
         Err(Stop::Memory) => {

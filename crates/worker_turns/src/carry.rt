@@ -8,7 +8,7 @@ ghost use Rattle.worker_crew.specs.Workers.{me_seen, IsMeOf};
 ghost use Rattle.worker_turns.specs.Stops.{IsStop};
 ghost use Rattle.worker_turns.specs.Free.{RanToIdle};
 
-use crate::calling::call;
+use crate::calling::make_call;
 use bt_io::{Pause, Point};
 use core_model::Next;
 use seq_objects::value;
@@ -52,8 +52,8 @@ fn make_act<G: Pause, R: Wait>(
             }
         }
         Next::Spin { steps, .. } => crew.table.keep(&mut me.pass, u64::from(spin(steps))),
-        Next::Call { leaf, .. } => {
-            call(rt, alloc, crew, me, leaf)?;
+        Next::Call { leaf, op, .. } => {
+            make_call(rt, alloc, crew, me, leaf, op)?;
         }
         Next::Got { reply, .. } => crew.table.keep(&mut me.pass, value(reply)),
         Next::Finish { .. } => crew.table.finish(&mut me.pass),

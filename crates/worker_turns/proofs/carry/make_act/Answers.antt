@@ -37,10 +37,10 @@ returns-in-End-clause-carried g c = let t = c.tick-in-End.ensures.ended _ _ (c.r
 pub returns-in-Spin-clause-carried : goal.returns-in-Spin-clause-carried
 returns-in-Spin-clause-carried g c = let k = c.keep.ensures.kept in carried_step _ _ _ _ _ _ (own_of _ _ k.3) refl refl
 
-pub returns-in_ok-call-in-Call-clause-carried : goal.returns-in_ok-call-in-Call-clause-carried
-returns-in_ok-call-in-Call-clause-carried g c =
-    let e = c.in_ok-call-in-Call.ensures in
-    carried_call _ _ e.job e.longer e.looked (front_called _ (pass_view c.args.me.now.pass) (pass_view c.call.new.me.pass) e.events) e.core e.helps
+pub returns-in_ok-make_call-in-Call-clause-carried : goal.returns-in_ok-make_call-in-Call-clause-carried
+returns-in_ok-make_call-in-Call-clause-carried g c =
+    let e = c.in_ok-make_call-in-Call.ensures in
+    carried_call _ _ e.job e.longer e.looked (front_called _ (pass_view c.args.me.now.pass) (pass_view c.make_call.new.me.pass) e.events) e.core e.helps
 
 pub returns-in-Got-clause-carried : goal.returns-in-Got-clause-carried
 returns-in-Got-clause-carried g c = let k = c.keep-in-Got.ensures.kept in carried_step _ _ _ _ _ _ (own_of _ _ k.3) refl refl

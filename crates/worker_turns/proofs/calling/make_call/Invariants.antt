@@ -10,7 +10,7 @@ use Rattle.worker_crew.specs.Passes.{IsTrapped}
 use Rattle.worker_crew.specs.Workers.{IsMeOf}
 use Rattle.worker_turns.specs.Trapped.{IsJobSame}
 use Rattle.worker_turns.specs.Free.{Helps}
-use Rattle.worker_turns.proofs.calling.call.Given as goal
+use Rattle.worker_turns.proofs.calling.make_call.Given as goal
 
 abbrev pub invariant-loop : goal.invariant-loop
 invariant-loop g l = record {

@@ -3,7 +3,7 @@ use Rattle.core_table.specs.Passes.{pass_view}
 use Rattle.worker_crew.specs.Passes.{is_trapped}
 use Rattle.worker_turns.specs.Trapped.{IsCallSame}
 use Rattle.worker_turns.proofs.CarryLemmas.Steps.{front_then, helps_then, jobs_then, stays_same}
-use Rattle.worker_turns.proofs.calling.call.Goals as goal
+use Rattle.worker_turns.proofs.calling.make_call.Goals as goal
 
 pub loop-preserved : goal.loop-preserved
 loop-preserved g c =

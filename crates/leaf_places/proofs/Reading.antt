@@ -1,5 +1,5 @@
 -- What is read again of an accepted text.
-use Rattle.std.proofs.Common.{ℕ, ◌≡◌, ◌+◌, ◌≤◌, List, [], length, map, refl, sym, ap, ◌∙◌, subst, arith}
+use Rattle.std.proofs.Common.{ℕ, ◌≡◌, ◌+◌, ◌≤◌, List, [], length, sym, ap, ◌∙◌, subst, arith}
 use Rattle.std.proofs.lemmas.List.{length-map}
 use Rattle.sp_order.specs.Jobs.{JobValue}
 use Rattle.sp_order.proofs.ObjectLemmas.{same_length}

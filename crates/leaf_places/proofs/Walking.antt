@@ -1,5 +1,5 @@
 -- The places of leaves, item by item, and the words before them.
-use Rattle.std.proofs.Common.{ℕ, ◌≡◌, ◌+◌, ◌<◌, List, [], ◌∷◌, ◌++◌, length, take, get_or, map, true, false, Vec, Global, refl, sym, ap, ◌∙◌, arith, append_assoc, length-append}
+use Rattle.std.proofs.Common.{ℕ, ◌≡◌, ◌+◌, ◌<◌, List, [], ◌∷◌, ◌++◌, length, take, get_or, map, true, false, Vec, Global, sym, ap, ◌∙◌, arith, append_assoc, length-append}
 use Rattle.std.specs.Prelude.{slice_index}
 use Rattle.std.proofs.lemmas.List.{map-append}
 use Rattle.job_names.specs.declared.name.Name.{Name}
@@ -53,9 +53,6 @@ let_places lines before name call = ap (places_from lines before) (item_of_let n
 pub block_places : (lines : List ℕ) (before : ℕ) (kind : CodeBlockKind) (inside : Vec Item Global)
     → places_from lines before (item_of (Block kind inside)) ≡ places_from lines before (block_then (block_kind_of kind) (items_of inside.items) nothing)
 block_places lines before kind inside = ap (places_from lines before) (item_of_block kind inside)
-
-pub block_words : (kind : CodeBlockKind) (inside : Vec Item Global) → length (items_words (item_of (Block kind inside))) ≡ length (items_words (block_then (block_kind_of kind) (items_of inside.items) nothing))
-block_words kind inside = ap (λ items. length (items_words items)) (item_of_block kind inside)
 
 -- the leaves of items that stand one after another
 

@@ -1,4 +1,4 @@
-use Rattle.std.proofs.Common.{Vec, Global, ℕ, ◌≡◌, length, subst, sym}
+use Rattle.std.proofs.Common.{Vec, Global, ℕ, ◌≡◌, subst, sym}
 use Rattle.std.proofs.lemmas.Result.{IfOk-weaker}
 use Rattle.leaf_places.specs.Places.{ArePlacesIn}
 use Rattle.leaf_places.specs.Rows.{rows_text, AreRowsOf}

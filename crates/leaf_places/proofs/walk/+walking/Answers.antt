@@ -1,5 +1,4 @@
-use Rattle.std.proofs.Common.{arith, ◌≡◌, ◌+◌, ◌++◌, sym, ap, subst, ◌∙◌}
-use Rattle.job_syntax.specs.Views.{items_of, item_of, block_kind_of}
+use Rattle.std.proofs.Common.{arith, ◌+◌}
 use Rattle.job_lang.proofs.Weights.{weight_item}
 use Rattle.job_lang.proofs.LimitLemmas.WordCounts.{word_count_more, front_word_count}
 use Rattle.leaf_places.proofs.Walking.{places_more}

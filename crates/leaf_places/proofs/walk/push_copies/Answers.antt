@@ -1,6 +1,5 @@
-use Rattle.std.proofs.Common.{rules, ◌≡◌, ◌++◌, List, [], length, map, sym, ap, ◌∙◌, append-nil}
+use Rattle.std.proofs.Common.{rules, ◌≡◌, ◌++◌, [], length, map, sym, ap, ◌∙◌, append-nil}
 use Rattle.std.proofs.lemmas.List.{nil_from_length}
-use Rattle.job_lang.specs.Meaning.{each_copy}
 use Rattle.leaf_places.specs.Code.Walk.{in_copy}
 use Rattle.leaf_places.proofs.Copying.{no_copies, copies_more}
 use Rattle.leaf_places.proofs.walk.push_copies.Goals as goal

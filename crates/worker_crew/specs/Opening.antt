@@ -1,10 +1,11 @@
 -- The workers' initial states.
-use Rattle.std.specs.Prelude.{ℕ, ◌≡◌, ◌<◌, ◌==◌, Bool, true, false, List, length, slice_index_or, if◌then◌else◌}
+use Rattle.std.specs.Prelude.{ℕ, ◌≡◌, ◌<◌, ◌*◌, ◌==◌, Bool, true, false, List, length, slice_get, slice_index_or, IfSome, if◌then◌else◌}
+use Rattle.std.specs.List.{count_by}
 use Rattle.seq_objects.specs.declared.act.Act.{Act}
 use Rattle.seq_objects.specs.declared.act.Act.TheVariants.{Work, Call}
 use Rattle.two_deques.specs.declared.decks.Decks.{Decks}
 use Rattle.two_deques.specs.Ends.{after_push}
-use Rattle.two_deques.specs.Hands.{Held, held, fresh_hand}
+use Rattle.two_deques.specs.Hands.{Held, held, fresh_hand, core_room_of, batch_room_of}
 use Rattle.two_deques.specs.Tries.{first_tries}
 use Rattle.piece_board.specs.declared.board.Board.{Board}
 use Rattle.piece_board.specs.Boards.{desk_view}
@@ -14,7 +15,8 @@ use Rattle.launch_batch.specs.declared.piece.PieceOut.{PieceOut}
 use Rattle.core_table.specs.declared.table.CoreTable.{CoreTable}
 use Rattle.worker_crew.specs.declared.batch_pieces.BatchPieces.{BatchPieces}
 use Rattle.worker_crew.specs.declared.crew.Me.{Me}
-use Rattle.core_table.specs.Passes.{pass_view}
+use Rattle.core_table.specs.declared.table.Pass.{Pass}
+use Rattle.core_table.specs.Passes.{job_in, planned_in, view, pass_view, opening_view, IsPassOf}
 use Rattle.table_rule.specs.Passes.{unused}
 use Rattle.worker_crew.specs.Workers.{IsReady}
 
@@ -31,6 +33,17 @@ with_root h = record h { core = after_push 0 h.core }
 abbrev pub opening_hand : ℕ → ℕ → Held
 opening_hand worker workers =
     if worker == 0 then with_root (fresh_hand worker workers) else fresh_hand worker workers
+
+-- Over its lifetime, each deque of nodes is guaranteed to take one push for each node of the table's job, and each deque
+-- of pieces eight for each leaf that calls.
+abbrev pub HaveRooms : CoreTable → Decks → Type 0
+HaveRooms table decks = (core_room_of decks ≡ (job_in table).plan.count)
+    × (batch_room_of decks ≡ 8 * count_by is_call (planned_in table).acts)
+
+-- the passes of a table that was just made, indexed by worker
+abbrev pub AreNewPasses : CoreTable → ℕ → List Pass → Type 0
+AreNewPasses table workers passes = (length passes ≡ workers)
+    × ((w : ℕ) → IfSome (slice_get passes w) (λ pass. IsPassOf table pass × (view pass ≡ opening_view table w)))
 
 module _ (table : CoreTable) (decks : Decks) (board : Board BatchPieces PieceIn PieceOut) (workers : ℕ) where
   -- `me` is this worker, ready for its first turn: its pass, its desk and its tries are unused, and its hand is the

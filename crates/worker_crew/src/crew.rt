@@ -6,6 +6,7 @@ mod opening;
 
 use crate::batch_pieces::BatchPieces;
 use core_table::{CoreTable, Pass};
+pub use opening::deck_rooms;
 use piece_board::{Board, Desk};
 use std::alloc::{AllocError, AllocFailed};
 use two_deques::{Decks, Hand, Tries};

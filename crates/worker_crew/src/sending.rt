@@ -1,4 +1,5 @@
-//! A crew can be shared between threads (`Sync`), and its workers can be sent to them (`Send`).
+//! A crew can be shared between threads (`Sync`), and its workers, and the deques it is made from, can be sent to them
+//! (`Send`).
 //!
 //! The proof search on the whole crew at once exceeds its budget, so each part is shown first.
 ghost use denote.Ref.{NamedLft};
@@ -9,6 +10,8 @@ ghost use Rattle.piece_board.specs.contracts.board.Board.{the_row as board_row};
 ghost use Rattle.piece_board.specs.contracts.board.Desk.{the_row as desk_row};
 ghost use Rattle.two_deques.specs.contracts.decks.Decks.{the_row as decks_row};
 ghost use Rattle.two_deques.specs.contracts.hand.Hand.{the_row as hand_row};
+ghost use Rattle.two_deques.specs.contracts.pair.DeckPair.{the_row as pair_row};
+ghost use Rattle.two_deques.specs.contracts.pair.Stealers.{the_row as stealers_row};
 ghost use Rattle.core_table.specs.contracts.table.Pass.{the_row as pass_row};
 ghost use Rattle.worker_crew.specs.contracts.batch_pieces.BatchPieces.{the_row as pieces_row};
 ghost use Rattle.worker_crew.specs.contracts.batch_pieces.BatchPiecesWork.TheImpl.{ghosts};
@@ -19,7 +22,7 @@ use crate::batch_pieces::BatchPieces;
 use core_table::laws::tables_go_to_threads;
 use launch_batch::{PieceIn, PieceOut};
 use piece_board::{Board, Desk};
-use two_deques::{Decks, Hand};
+use two_deques::{DeckPair, Decks, Hand, Stealers};
 
 /// Proof only: turns the bound `T: Send` into a fact about the type's row.
 fn is_sent<T: Send>()
@@ -49,6 +52,16 @@ fn decks_go_to_threads()
 {
     is_shared::<Decks>();
     is_sent::<Hand>();
+}
+
+/// A worker's new deques can be sent back from the thread that made them, and what is left of them to one that drops
+/// it.
+pub fn pairs_go_to_threads()
+    ensures pair { IsSend pair_row }
+    ensures stealers { IsSend stealers_row }
+{
+    is_sent::<DeckPair>();
+    is_sent::<Stealers>();
 }
 
 /// A worker can be sent to a thread, and its pass can be sent back.

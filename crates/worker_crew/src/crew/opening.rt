@@ -7,7 +7,7 @@ ghost use Rattle.table_rule.specs.Passes.{unused};
 ghost use Rattle.two_deques.specs.Hands.{core_room_of, batch_room_of};
 ghost use Rattle.two_deques.specs.Hands.{held, workers_of, fresh_hand, IsHandOf, AreHands};
 ghost use Rattle.piece_board.specs.Boards.{workers_of as rows_of, AreDesks};
-ghost use Rattle.worker_crew.specs.Opening.{is_call, opening_hand, AreAtStart};
+ghost use Rattle.worker_crew.specs.Opening.{is_call, opening_hand, HaveRooms, AreNewPasses, AreAtStart};
 
 use crate::batch_pieces::BatchPieces;
 use crate::crew::{Crew, Me};
@@ -17,7 +17,7 @@ use piece_board::{Board, Desk};
 use seq_objects::Act;
 use sp_order::Job;
 use std::alloc::{AllocError, Global};
-use two_deques::{Decks, Hand, Tries};
+use two_deques::{Decks, Hand, Rooms, Tries};
 
 /// The number of leaves whose act is a call.
 fn count_calls(acts: &[Act]) -> u32
@@ -31,6 +31,22 @@ fn count_calls(acts: &[Act]) -> u32
         }
     }
     count
+}
+
+/// The rooms of the deques of a run over this table. Over its lifetime, a deque of nodes is sure to take one push for
+/// each node of the job, and a deque of pieces eight for each leaf that calls.
+///
+/// Memory: none.
+pub fn deck_rooms(table: &CoreTable) -> Rooms
+    ensures core { result.core ≡ (job_in table.now).plan.count }
+    ensures batch { result.batch ≡ 8 * count_by is_call (planned_in table.now).acts }
+    ensures most { (result.core ≤ 160000) × (result.batch ≤ 160000) }
+{
+    let job = table.job();
+    Rooms {
+        core: job.nodes(),
+        batch: 8 * count_calls(job.acts()),
+    }
 }
 
 /// The hand with which a worker begins. Worker 0 first pushes node 0, the root.
@@ -106,9 +122,34 @@ impl<'a, G: Pause> Crew<'a, G> {
             workers workers made.1.items) }
     {
         let (table, passes) = CoreTable::make(alloc, job, workers)?;
-        let nodes = table.job().nodes();
-        let calls = count_calls(job.acts());
-        let (decks, hands) = Decks::make(alloc, workers, nodes, 8 * calls)?;
+        let rooms = deck_rooms(&table);
+        let (decks, hands) = Decks::make(alloc, workers, rooms.core, rooms.batch)?;
+        Crew::of(alloc, workers, table, passes, decks, hands, pause)
+    }
+
+    /// The crew of a table and of deques that were just made, with the rooms of `deck_rooms`, and its workers, indexed
+    /// by worker. It is the crew of `make`, whoever made its deques.
+    pub fn of(
+        alloc: Global,
+        workers: u32,
+        table: CoreTable,
+        passes: Vec<Pass>,
+        decks: Decks,
+        hands: Vec<Hand>,
+        pause: &'a G,
+    ) -> Result<(Crew<'a, G>, Vec<Me>), AllocError>
+        requires workers { ((job_in table).workers ≡ workers) × (0 < workers) × (workers ≤ 32) }
+        requires passes { AreNewPasses table workers passes.items }
+        requires decks { workers_of decks ≡ workers }
+        requires rooms { HaveRooms table decks }
+        requires hands { AreHands decks hands.items }
+        ensures table { IfOk result (λ made. made.0.table ≡ table) }
+        ensures decks { IfOk result (λ made. made.0.decks ≡ decks) }
+        ensures workers { IfOk result (λ made. made.0.workers ≡ workers) }
+        ensures rooms { IfOk result (λ made. HaveRooms made.0.table made.0.decks) }
+        ensures start { IfOk result (λ made. AreAtStart made.0.table made.0.decks made.0.board
+            workers workers made.1.items) }
+    {
         let (board, desks) = Board::make(alloc, workers)?;
         let crew = Crew {
             table,

@@ -10,10 +10,11 @@ use Rattle.seq_objects.specs.Pieces.{AllMeet}
 use Rattle.bulk_calls.specs.declared.piece.KeyOp.{KeyOp}
 use Rattle.bulk_calls.specs.declared.piece.Piece.{Piece}
 use Rattle.bulk_calls.specs.declared.piece.Served.{Served}
+use Rattle.bulk_calls.specs.declared.piece.Rest.{Rest}
 use Rattle.bulk_calls.specs.Views.{BulkView}
 use Rattle.bulk_calls.specs.Bulk.{bulk_after, bulk_replies}
-use Rattle.bulk_calls.specs.Code.Singles.{singles, keys_in, chopped}
-use Rattle.bulk_calls.specs.Code.Pieces.{Meets, IsCut, ranges_after, answers_of}
+use Rattle.bulk_calls.specs.Singles.{singles, keys_in, chopped}
+use Rattle.bulk_calls.specs.Pieces.{Meets, IsContextOf, ranges_after, answers_of}
 use Rattle.bulk_calls.proofs.SetLaws.{ascends_after_each}
 use Rattle.bulk_calls.proofs.CallLemmas.{answered_length, left_by_calls, replied_to_calls}
 use Rattle.bulk_calls.proofs.RangeLemmas.{key_of, set_ranges, operation_ranges, joined, merged_answers}
@@ -37,14 +38,15 @@ pub record IsServed (set : List ℕ) (calls : List BulkView) (groups : List ℕ)
   pub long : length (merged false groups (answers_of outs)) ≡ length (singles calls)
   pub replies_are : chopped calls (merged false groups (answers_of outs)) ≡ bulk_replies set calls
 
-pub batch_served : (set : List ℕ) (calls : List BulkView) (groups : List ℕ) (pieces : List Piece) (outs : List Served) → StrictlyAscends set
-    → IsCut set (singles calls) groups pieces → AllMeet Meets pieces outs → IsServed set calls groups outs
-batch_served set calls groups pieces outs up cut meet =
+pub batch_served : (rest : Rest) (set : List ℕ) (calls : List BulkView) (pieces : List Piece) (outs : List Served)
+    → IsContextOf rest set calls pieces → AllMeet Meets pieces outs → IsServed set calls rest.groups.items outs
+batch_served rest set calls pieces outs context meet =
     let operations = singles calls in
-    let left = joined set operations groups pieces outs up cut meet in
-    let answers = merged_answers set operations groups pieces outs up cut meet in
+    let groups = rest.groups.items in
+    let left = joined set operations groups pieces outs context.ascends context.cut meet in
+    let answers = merged_answers set operations groups pieces outs context.ascends context.cut meet in
     record {
-      ascends = subst StrictlyAscends (sym left) (ascends_after_each set operations up);
+      ascends = subst StrictlyAscends (sym left) (ascends_after_each set operations context.ascends);
       set_is = left ∙ left_by_calls set calls;
       long = ap length answers ∙ answered_length set operations;
       replies_are = ap (chopped calls) answers ∙ replied_to_calls set calls;

@@ -5,7 +5,7 @@ use Rattle.bulk_calls.specs.declared.op.BulkKind.{BulkKind}
 use Rattle.bulk_calls.specs.declared.piece.KeyOp.{KeyOp}
 use Rattle.bulk_calls.specs.Views.{BulkView}
 use Rattle.bulk_calls.specs.Bulk.{after_key, answer, after_keys, answers, bulk_serve, bulk_after, bulk_replies}
-use Rattle.bulk_calls.specs.Code.Singles.{after_one, answer_to, each_as, singles, chopped}
+use Rattle.bulk_calls.specs.Singles.{after_one, answer_to, each_as, singles, chopped}
 
 -- what operations leave, and what they answer
 abbrev pub left_by : List ℕ → List KeyOp → List ℕ

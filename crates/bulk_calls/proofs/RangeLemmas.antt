@@ -13,8 +13,8 @@ use Rattle.seq_objects.specs.Pieces.{AllMeet}
 use Rattle.bulk_calls.specs.declared.piece.KeyOp.{KeyOp}
 use Rattle.bulk_calls.specs.declared.piece.Piece.{Piece}
 use Rattle.bulk_calls.specs.declared.piece.Served.{Served}
-use Rattle.bulk_calls.specs.Code.Singles.{after_one, answer_to}
-use Rattle.bulk_calls.specs.Code.Pieces.{Meets, IsCut, ranges_of, operations_of, ranges_after, answers_of}
+use Rattle.bulk_calls.specs.Singles.{after_one, answer_to}
+use Rattle.bulk_calls.specs.Pieces.{Meets, IsCut, ranges_of, operations_of, ranges_after, answers_of}
 use Rattle.bulk_calls.proofs.SetLaws.{ascends_by, keys_are_keyed}
 
 -- the key of an operation

@@ -10,7 +10,7 @@ use Rattle.bulk_calls.specs.declared.op.BulkKind.{BulkKind}
 use Rattle.bulk_calls.specs.declared.op.BulkKind.TheVariants.{Insert, Remove, Find}
 use Rattle.bulk_calls.specs.declared.piece.KeyOp.{KeyOp}
 use Rattle.bulk_calls.specs.Bulk.{is_yes, after_key, answer}
-use Rattle.bulk_calls.specs.Code.Singles.{after_one, answer_to}
+use Rattle.bulk_calls.specs.Singles.{after_one, answer_to}
 
 -- the reply made of an answer gives the answer back
 pub said : (b : Bool) → is_yes (yes_or_no b) ≡ b

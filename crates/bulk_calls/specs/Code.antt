@@ -1,4 +1,2 @@
--- What only the code and its proofs cite: the single keys of calls, pieces, and keys among starts.
-pub mod Singles
-pub mod Pieces
+-- What only the code and its proofs cite: keys among starts.
 pub mod Lookup

@@ -6,8 +6,8 @@ ghost use Rattle.keyed_pieces.specs.Dealing.{lists};
 ghost use Rattle.keyed_pieces.specs.Ranges.{ranges};
 ghost use Rattle.forest_cuts.specs.Parts.{keys_of_each};
 ghost use Rattle.bulk_calls.specs.Bulk.{operations};
-ghost use Rattle.bulk_calls.specs.Code.Singles.{singles, each_as, keys_in};
-ghost use Rattle.bulk_calls.specs.Code.Pieces.{ranges_of, operations_of, IsCut};
+ghost use Rattle.bulk_calls.specs.Singles.{singles, each_as, keys_in};
+ghost use Rattle.bulk_calls.specs.Pieces.{ranges_of, operations_of, IsCut};
 
 use crate::call::BulkCall;
 use crate::groups::groups_of;
@@ -114,7 +114,8 @@ pub(crate) fn cut_batch(
     operations: &[KeyOp],
     pool: &mut ForestPool,
 ) -> Result<(Vec<usize>, Vec<Piece>), AllocError>
-    ensures { IfOk result (λ p. IsCut forest.keys operations.now p.0.items p.1.items) }
+    ensures cut { IfOk result (λ p. IsCut forest.keys operations.now p.0.items p.1.items) }
+    ensures few { IfOk result (λ p. length p.1.items ≤ 16) }
 {
     let starts = starts_of(alloc, operations)?;
     let (groups, dealt) = deal_out(alloc, operations, &starts)?;

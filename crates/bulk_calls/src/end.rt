@@ -6,8 +6,8 @@ ghost use Rattle.keyed_pieces.specs.Ranges.{side_by_side, merged};
 ghost use Rattle.tree_forest.specs.Views.{most_trees};
 ghost use Rattle.forest_cuts.specs.Parts.{keys_of_each};
 ghost use Rattle.bulk_calls.specs.Bulk.{operations};
-ghost use Rattle.bulk_calls.specs.Code.Singles.{chopped, singles};
-ghost use Rattle.bulk_calls.specs.Code.Pieces.{ranges_after, answers_of};
+ghost use Rattle.bulk_calls.specs.Singles.{chopped, singles};
+ghost use Rattle.bulk_calls.specs.Pieces.{ranges_after, answers_of};
 
 use crate::call::BulkCall;
 use crate::piece::Served;

@@ -5,7 +5,8 @@
 //! all calls are cut into groups. Each piece of a batch has the range of the set of one group, and serves the keys of
 //! all calls in it. Each answer is put back in its call's place. No operation changes its place in the order for that:
 //! an operation touches what stands at its key alone, so the ranges can be served apart, as `keyed_pieces` says. The
-//! set is a forest, cut and joined by `forest_cuts`; `piece_threads` runs the pieces.
+//! set is a forest, cut and joined by `forest_cuts`; `piece_threads` runs the pieces, or a caller runs them itself between
+//! `BulkSet::begin` and `BulkSet::end`.
 #![tactic(auto)]
 
 mod begin;
@@ -22,5 +23,6 @@ mod set;
 pub use call::BulkCall;
 pub use op::{BulkKind, BulkOp};
 pub use order::in_batch_order;
+pub use piece::{Piece, Rest, Served};
 pub use replies::Replies;
 pub use set::BulkSet;

@@ -1,7 +1,7 @@
 //! Serving the keys of one range.
 ghost use Rattle.std.specs.Prelude.{◌≡◌, IfOk, OnOk};
-ghost use Rattle.bulk_calls.specs.Code.Singles.{after_one, answer_to};
-ghost use Rattle.bulk_calls.specs.Code.Pieces.{Meets};
+ghost use Rattle.bulk_calls.specs.Singles.{after_one, answer_to};
+ghost use Rattle.bulk_calls.specs.Pieces.{Meets};
 
 use crate::op::BulkKind;
 use crate::piece::{KeyOp, Piece, Served};
@@ -25,18 +25,27 @@ fn serve_one(forest: &mut Forest, operation: KeyOp) -> Result<bool, AllocError>
     }
 }
 
-impl Pieces<Piece, Served> for RangePieces {
-    ghost meets = { Meets };
-
-    fn piece(alloc: Global, input: Piece) -> Result<Served, AllocError> {
+impl Piece {
+    /// Serves the keys of the range, one after another.
+    pub fn serve(self, alloc: Global) -> Result<Served, AllocError>
+        ensures { IfOk result (λ served. Meets self served) }
+    {
         let Piece {
             mut forest,
             operations,
-        } = input;
+        } = self;
         let mut answers = VecDeque::with_capacity(alloc, operations.len())?;
         for operation in &operations {
             answers.push_back(serve_one(&mut forest, *operation)?)?;
         }
         Ok(Served { forest, answers })
+    }
+}
+
+impl Pieces<Piece, Served> for RangePieces {
+    ghost meets = { Meets };
+
+    fn piece(alloc: Global, input: Piece) -> Result<Served, AllocError> {
+        input.serve(alloc)
     }
 }

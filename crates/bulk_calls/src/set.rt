@@ -1,15 +1,16 @@
 //! The set, and how it serves a batch: cut, run the pieces, join the ranges, cut the answers by call.
-ghost use Rattle.std.specs.Prelude.{◌≡◌, ◌<◌, ◌≤◌, [], length, IfOk, IsOk};
+ghost use Rattle.std.specs.Prelude.{◌≡◌, ◌<◌, ◌≤◌, ℕ, List, [], length, IfOk, IsOk};
 ghost use Rattle.key_sets.specs.Keys.{StrictlyAscends};
 ghost use Rattle.bulk_calls.specs.Bulk.{bulk_after, bulk_replies, operations};
 ghost use Rattle.bulk_calls.specs.Batches.{AreBulkBatch};
-ghost use Rattle.bulk_calls.specs.Code.Pieces.{Meets};
+ghost use Rattle.bulk_calls.specs.declared.piece.Piece.{Piece as PieceOf};
+ghost use Rattle.bulk_calls.specs.Pieces.{Meets, IsContextOf};
 ghost use Rattle.seq_objects.specs.Pieces.{AllMeet};
 
 use crate::begin::{cut_batch, singles_of};
 use crate::call::BulkCall;
 use crate::end::{join_outs, replies_of};
-use crate::piece::{KeyOp, Piece, Served};
+use crate::piece::{KeyOp, Piece, Rest, Served};
 use crate::replies::Replies;
 use crate::serve::RangePieces;
 use keyed_pieces::laws::dealing_is_by_range;
@@ -68,6 +69,44 @@ impl BulkSet {
         ensures { StrictlyAscends self.now }
     {
         self.forest.keys_ascend();
+    }
+
+    /// Cuts a batch into at most 16 pieces, each of which may be served on its own, in any thread. The set is dropped when
+    /// memory runs out.
+    pub fn begin(self, alloc: Global, calls: &[BulkCall]) -> Result<(Rest, Vec<Piece>), AllocError>
+        requires { AreBulkBatch calls.now }
+        ensures few { IfOk result (λ p. length p.1.items ≤ 16) }
+        ensures remembers { IfOk result (λ p. IsContextOf p.0 self (operations calls.now) p.1.items) }
+    {
+        self.forest.keys_ascend();
+        let BulkSet { forest, mut pool } = self;
+        let operations = singles_of(alloc, calls)?;
+        let (groups, pieces) = cut_batch(alloc, forest, &operations, &mut pool)?;
+        Ok((Rest { groups, pool }, pieces))
+    }
+
+    /// Reassembles the set from what its pieces came to, and returns the replies in the order of the batch's calls. The set
+    /// is dropped when memory runs out.
+    ///
+    /// The clauses are the law of pieces: if `outs` has one output for each piece, in the same order, and each meets its
+    /// piece, the batch was served as its calls one after another.
+    pub fn end(
+        alloc: Global,
+        rest: Rest,
+        calls: &[BulkCall],
+        outs: Vec<Served>,
+    ) -> Result<(BulkSet, Vec<Replies>), AllocError>
+        requires { (set : List ℕ) × (pieces : List PieceOf) × IsContextOf rest set (operations calls.now) pieces × AllMeet Meets pieces outs.items }
+        ensures set { IfOk result (λ p. (set : List ℕ) (pieces : List PieceOf) → IsContextOf rest set (operations calls.now) pieces
+            → AllMeet Meets pieces outs.items → p.0 ≡ bulk_after set (operations calls.now)) }
+        ensures replies { IfOk result (λ p. (set : List ℕ) (pieces : List PieceOf) → IsContextOf rest set (operations calls.now) pieces
+            → AllMeet Meets pieces outs.items → p.1.items ≡ bulk_replies set (operations calls.now)) }
+    {
+        dealing_is_by_range::<KeyOp, bool>();
+        let Rest { groups, mut pool } = rest;
+        let (forest, answers) = join_outs(alloc, &groups, outs, &mut pool)?;
+        let replies = replies_of(alloc, calls, &answers)?;
+        Ok((BulkSet { forest, pool }, replies))
     }
 
     /// Serves a batch, and returns the replies in the order of its calls. The set is dropped when memory runs out.
@@ -142,14 +181,8 @@ impl BulkSet {
         ensures set { IfOk result (λ p. p.0 ≡ bulk_after self (operations calls.now)) }
         ensures replies { IfOk result (λ p. p.1.items ≡ bulk_replies self (operations calls.now)) }
     {
-        dealing_is_by_range::<KeyOp, bool>();
-        self.forest.keys_ascend();
-        let BulkSet { forest, mut pool } = self;
-        let operations = singles_of(alloc, calls)?;
-        let (groups, pieces) = cut_batch(alloc, forest, &operations, &mut pool)?;
+        let (rest, pieces) = self.begin(alloc, calls)?;
         let outs = run(pieces)?;
-        let (forest, answers) = join_outs(alloc, &groups, outs, &mut pool)?;
-        let replies = replies_of(alloc, calls, &answers)?;
-        Ok((BulkSet { forest, pool }, replies))
+        BulkSet::end(alloc, rest, calls, outs)
     }
 }

@@ -1,5 +1,5 @@
 use Rattle.std.proofs.Common.{◌≡◌, ◌++◌, drop}
-use Rattle.bulk_calls.specs.Code.Singles.{keys_in}
+use Rattle.bulk_calls.specs.Singles.{keys_in}
 use Rattle.bulk_calls.proofs.begin.distinct_keys.Given as goal
 
 abbrev pub invariant-loop-operation : goal.invariant-loop-operation

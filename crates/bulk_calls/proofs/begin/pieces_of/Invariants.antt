@@ -1,7 +1,7 @@
 use Rattle.std.proofs.Common.{◌≡◌, ◌++◌, length}
 use Rattle.keyed_pieces.specs.Dealing.{lists}
 use Rattle.forest_cuts.specs.Parts.{keys_of_each}
-use Rattle.bulk_calls.specs.Code.Pieces.{ranges_of, operations_of}
+use Rattle.bulk_calls.specs.Pieces.{ranges_of, operations_of}
 use Rattle.bulk_calls.proofs.begin.pieces_of.Given as goal
 
 abbrev pub invariant-loop-forest : goal.invariant-loop-forest

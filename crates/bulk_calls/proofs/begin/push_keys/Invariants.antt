@@ -1,5 +1,5 @@
 use Rattle.std.proofs.Common.{◌≡◌, ◌++◌, drop}
-use Rattle.bulk_calls.specs.Code.Singles.{each_as}
+use Rattle.bulk_calls.specs.Singles.{each_as}
 use Rattle.bulk_calls.proofs.begin.push_keys.Given as goal
 
 abbrev pub invariant-loop-key : goal.invariant-loop-key

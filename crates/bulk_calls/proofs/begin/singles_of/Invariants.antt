@@ -1,6 +1,6 @@
 use Rattle.std.proofs.Common.{◌≡◌, ◌++◌, drop}
 use Rattle.bulk_calls.specs.Bulk.{operations}
-use Rattle.bulk_calls.specs.Code.Singles.{singles}
+use Rattle.bulk_calls.specs.Singles.{singles}
 use Rattle.bulk_calls.proofs.begin.singles_of.Given as goal
 
 abbrev pub invariant-loop-call : goal.invariant-loop-call

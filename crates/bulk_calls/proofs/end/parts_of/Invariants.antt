@@ -1,7 +1,7 @@
 use Rattle.std.proofs.Common.{◌≡◌, ◌++◌}
 use Rattle.keyed_pieces.specs.Dealing.{queued}
 use Rattle.forest_cuts.specs.Parts.{keys_of_each}
-use Rattle.bulk_calls.specs.Code.Pieces.{ranges_after, answers_of}
+use Rattle.bulk_calls.specs.Pieces.{ranges_after, answers_of}
 use Rattle.bulk_calls.proofs.end.parts_of.Given as goal
 
 abbrev pub invariant-loop-out : goal.invariant-loop-out

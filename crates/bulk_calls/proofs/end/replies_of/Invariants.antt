@@ -1,6 +1,6 @@
 use Rattle.std.proofs.Common.{◌≡◌, ◌++◌, drop, length}
 use Rattle.bulk_calls.specs.Bulk.{operations}
-use Rattle.bulk_calls.specs.Code.Singles.{singles, chopped}
+use Rattle.bulk_calls.specs.Singles.{singles, chopped}
 use Rattle.bulk_calls.proofs.end.replies_of.Given as goal
 
 abbrev pub invariant-loop-call : goal.invariant-loop-call

@@ -1,5 +1,8 @@
 //! A set whose calls carry many keys, and how it serves operations as a batch.
-ghost use Rattle.std.specs.Prelude.{◌≡◌, ◌≤◌, ⊤, [], length, map, IfOk, OnErr};
+ghost use Rattle.std.specs.Prelude.{◌≡◌, ◌≤◌, ⊤, ℕ, List, [], length, map, IfOk, OnErr};
+ghost use Rattle.bulk_calls.specs.Views.{BulkView};
+ghost use Rattle.bulk_calls.specs.Bulk.{bulk_after, bulk_replies, operations};
+ghost use Rattle.bulk_calls.specs.Batches.{in_batch_order};
 ghost use Rattle.shared_calls.specs.Serial.{IsServedInSomeOrder};
 ghost use Rattle.shared_collections.specs.Bulks.{asked, bulk_set};
 
@@ -11,11 +14,13 @@ use std::alloc::{AllocError, Global};
 /// A set of numbers below 2^32.
 #[derive(Drop)]
 pub struct Bulk {
-    pub(crate) set: BulkSet,
+    pub set: BulkSet,
 }
 
 /// The operation that does this with the keys.
-pub(crate) fn asked(kind: BulkKind, keys: &[u32]) -> BulkOp
+///
+/// Memory: none.
+pub fn asked(kind: BulkKind, keys: &[u32]) -> BulkOp
     requires { length keys.now ≤ 64 }
     ensures { result ≡ asked kind keys.now }
 {
@@ -34,6 +39,23 @@ fn places_of(alloc: Global, calls: &[BulkCall]) -> Result<Vec<usize>, AllocError
         .iter()
         .map(|call| call.worker() as usize)
         .collect(alloc)
+}
+
+/// The replies to the calls of a batch, in the order of the operations that the calls ask. Where they are those of the
+/// calls one after another, the operations were served as if they came one after another in some order.
+pub fn in_operation_order(
+    alloc: Global,
+    calls: &[BulkCall],
+    replies: Vec<Replies>,
+) -> Result<Vec<Replies>, AllocError>
+    requires calls { (ops : List BulkView) × (calls.now ≡ in_batch_order ops) }
+    requires count { length replies.items ≡ length calls.now }
+    ensures { IfOk result (λ ordered. (set : List ℕ) (ops : List BulkView) → calls.now ≡ in_batch_order ops
+        → replies.items ≡ bulk_replies set (operations calls.now)
+        → IsServedInSomeOrder bulk_set set ops ordered.items (bulk_after set (operations calls.now))) }
+{
+    let places = places_of(alloc, calls)?;
+    in_call_order(alloc, &places, replies)
 }
 
 impl Bulk {
@@ -72,8 +94,7 @@ impl Combined for Bulk {
     {
         let calls = in_batch_order(alloc, &ops)?;
         let (set, replies) = self.into_set().serve(alloc, &calls)?;
-        let places = places_of(alloc, &calls)?;
-        let replies = in_call_order(alloc, &places, replies)?;
+        let replies = in_operation_order(alloc, &calls, replies)?;
         Ok((Bulk { set }, replies))
     }
 }

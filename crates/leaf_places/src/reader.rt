@@ -8,24 +8,29 @@ ghost use Rattle.leaf_places.specs.Places.{ArePlacesIn, lines_of};
 
 use crate::place::LeafPlace;
 use crate::walk::push_items;
-use job_syntax::{Item, JobErr, WordOnLine, last_line, read_items, words_in};
+use job_syntax::{Cursor, Item, JobErr, read_items};
 use std::alloc::{AllocError, Global};
 
-/// The lines of words.
-fn lines_of(alloc: Global, words: &[WordOnLine]) -> Result<Vec<u32>, AllocError>
-    ensures { IfOk result (λ lines. lines.items ≡ lines_of words.now) }
+/// The lines of the words of a text.
+fn lines_in(alloc: Global, text: &[u8]) -> Result<Vec<u32>, AllocError>
+    requires short { length text.now ≤ 1048576 }
+    ensures { IfOk result (λ lines. lines.items ≡ lines_of (words_on_lines text.now)) }
 {
-    words.iter().map(|word| word.line).collect(alloc)
+    let mut words = Cursor::new(text);
+    let mut lines = Vec::new(alloc);
+    while let Some(word) = words.next() {
+        lines.push(word.line)?;
+    }
+    Ok(lines)
 }
 
-/// The items of an accepted text with these words.
-fn items_in(alloc: Global, text: &[u8], words: &[WordOnLine]) -> Result<Vec<Item>, AllocError>
+/// The items of an accepted text.
+fn items_in(alloc: Global, text: &[u8]) -> Result<Vec<Item>, AllocError>
     requires short { length text.now ≤ 1048576 }
-    requires words { words.now ≡ words_on_lines text.now }
     requires accepted { Accepts text.now }
-    ensures { IfOk result (λ items. AreItemsOf words.now (items_of items.items)) }
+    ensures { IfOk result (λ items. AreItemsOf (words_on_lines text.now) (items_of items.items)) }
 {
-    match read_items(alloc, words, last_line(text)) {
+    match read_items(alloc, text) {
         Ok(items) => Ok(items),
         Err(JobErr::Memory) => Err(AllocError),
         Err(JobErr::Bad(_)) => unreachable!(),
@@ -40,9 +45,8 @@ pub fn places_in(alloc: Global, text: &[u8]) -> Result<Vec<LeafPlace>, AllocErro
     requires accepted { Accepts text.now }
     ensures { IfOk result (λ places. ArePlacesIn text.now places.items) }
 {
-    let words = words_in(alloc, text)?;
-    let items = items_in(alloc, text, &words)?;
-    let lines = lines_of(alloc, &words)?;
+    let items = items_in(alloc, text)?;
+    let lines = lines_in(alloc, text)?;
     let mut places = Vec::new(alloc);
     push_items(alloc, &lines, 0, &items, &mut places)?;
     Ok(places)

@@ -18,7 +18,7 @@ fn push_leaf(
     places: &mut Vec<LeafPlace>,
 ) -> Result<(), AllocError>
     requires within { first < length lines.now }
-    requires short { length lines.now < 2 ^ 60 }
+    requires short { length lines.now < 2 ^ 61 }
     ensures { OnOk result (places.new.items ≡ places.old.items ++ outside (slice_index lines.now first) ∷ []) }
 {
     places.push(LeafPlace::on_line(alloc, lines[first]))?;
@@ -72,7 +72,7 @@ pub(crate) fn push_items(
     places: &mut Vec<LeafPlace>,
 ) -> Result<(), AllocError>
     requires within { first + length (items_words (items_of items.now)) ≤ length lines.now }
-    requires short { length lines.now < 2 ^ 60 }
+    requires short { length lines.now < 2 ^ 61 }
     ensures { OnOk result
         (places.new.items ≡ places.old.items ++ places_from lines.now first (items_of items.now)) }
 {
@@ -95,7 +95,7 @@ fn push_item(
     places: &mut Vec<LeafPlace>,
 ) -> Result<(), AllocError>
     requires within { first + length (items_words (item_of item.now)) ≤ length lines.now }
-    requires short { length lines.now < 2 ^ 60 }
+    requires short { length lines.now < 2 ^ 61 }
     ensures { OnOk result
         (places.new.items ≡ places.old.items ++ places_from lines.now first (item_of item.now)) }
 {
@@ -119,7 +119,7 @@ fn push_block(
 ) -> Result<(), AllocError>
     requires within { first + length (items_words (block_then (block_kind_of kind) (items_of inside.now) nothing))
         ≤ length lines.now }
-    requires short { length lines.now < 2 ^ 60 }
+    requires short { length lines.now < 2 ^ 61 }
     ensures { OnOk result
         (places.new.items
         ≡ places.old.items
@@ -143,7 +143,7 @@ fn push_loop(
     places: &mut Vec<LeafPlace>,
 ) -> Result<(), AllocError>
     requires within { first + length (items_words (items_of items.now)) ≤ length lines.now }
-    requires short { length lines.now < 2 ^ 60 }
+    requires short { length lines.now < 2 ^ 61 }
     ensures { OnOk result
         (places.new.items
         ≡ places.old.items

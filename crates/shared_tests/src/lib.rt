@@ -5,6 +5,8 @@
 #![tactic(auto)]
 
 #[cfg(test)]
+mod bulk_pieces;
+#[cfg(test)]
 mod collections;
 #[cfg(test)]
 mod meeting;

@@ -1,0 +1,2 @@
+-- The specification of a shared set that serves a batch in pieces.
+pub mod Batches

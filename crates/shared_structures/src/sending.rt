@@ -5,10 +5,11 @@ ghost use denote.Param.Send.{IsSend, IsSync};
 ghost use Rattle.batched_pq.specs.contracts.queue.Queue.{the_row as queue_row};
 ghost use Rattle.batched_tree.specs.contracts.tree_set.TreeSet.{the_row as tree_row};
 ghost use Rattle.shared_structures.specs.contracts.queue.SharedQueue.{the_row as shared_queue_row};
+ghost use Rattle.shared_structures.specs.contracts.set.CombinedSet.{the_row as set_row};
 ghost use Rattle.shared_structures.specs.contracts.set.SharedSet.{the_row as shared_set_row};
 
 use crate::queue::SharedQueue;
-use crate::set::SharedSet;
+use crate::set::{CombinedSet, SharedSet};
 use batched_pq::Queue;
 use batched_tree::TreeSet;
 
@@ -31,11 +32,13 @@ fn structures_are_sent()
     is_sent::<Queue>();
 }
 
-/// Threads can share a set. For proofs only; does nothing at run time.
+/// Threads can share a set, and what its callers hold can be sent. For proofs only; does nothing at run time.
 pub fn sets_go_to_threads()
-    ensures { IsSync shared_set_row }
+    ensures shared { IsSync shared_set_row }
+    ensures sent { IsSend set_row }
 {
     structures_are_sent();
+    is_sent::<CombinedSet>();
     is_shared::<SharedSet>();
 }
 

@@ -243,5 +243,6 @@ fn two_threads_get_each_node_once(rt: HostRuntime) -> Result<(), Fail> {
     let shared = &decks;
     let lists = thread::map_vec(&rt, hands, &|hand: Hand| race(&rt, alloc, shared, hand))?;
     assert!(rt; are_all(alloc, lists)?);
+    assert!(rt; decks.into_stealers(alloc)?.len() == 2);
     Ok(())
 }

@@ -1,2 +1,3 @@
 mod TurnLemmas
 mod RunKept
+mod PairLemmas

@@ -3,7 +3,8 @@
 //! There are two runs, and both promise a lawful report for every interleaving of the threads.
 //!
 //! - `table_run`: all threads share the running table, the deques and the board, and take no lock. After a bounded wait
-//!   for the others (`start_barrier`) each worker takes the turns of `worker_turns`.
+//!   for the others (`start_barrier`) each worker takes the turns of `worker_turns`. The deques are made and dropped in
+//!   threads too (`table_run::deques`).
 //! - `locked`: the reference implementation. All threads share the scheduler's core under one lock (`run`). A worker
 //!   holds the lock for one turn at a time (`turn`), and does outside it the work of its leaves, its pushes and its
 //!   pauses (`worker`). A worker that has no event looks for a sign of work in the deques (`hints`).

@@ -1,5 +1,5 @@
 //! A run in threads over the running table.
-ghost use Rattle.std.specs.Prelude.{◌≡◌, ◌<◌, ◌≤◌, ℕ, true, Some, IfOk, length, slice_index_or};
+ghost use Rattle.std.specs.Prelude.{◌≡◌, ◌<◌, ◌≤◌, ℕ, true, Some, IsSome, IfOk, length, slice_index_or};
 ghost use Rattle.batch_history.specs.Lawful.{Lawful};
 ghost use Rattle.core_table.specs.declared.table.Pass.{Pass as PassOf};
 ghost use Rattle.core_table.specs.Passes.{planned_in, job_in, view, IsPassOf, IsMissOf};
@@ -10,9 +10,12 @@ ghost use Rattle.table_rule.specs.Words.{stop_at};
 ghost use Rattle.core_model.specs.Reports.{IsRunReport};
 ghost use Rattle.worker_crew.specs.declared.crew.Me.{Me as MeOf};
 ghost use Rattle.worker_crew.specs.Workers.{IsReady};
-ghost use Rattle.worker_crew.specs.Opening.{AreAtStart};
+ghost use Rattle.worker_crew.specs.Opening.{HaveRooms, AreAtStart};
 ghost use Rattle.worker_loop.specs.Ends.{HasEnded};
 
+mod deques;
+
+use self::deques::{drop_decks, make_decks};
 use crate::start_barrier::wait_for_others;
 use crate::{Crew, Me};
 use batch_history::Report;
@@ -25,8 +28,33 @@ use std::sync::Wait;
 use std::sync::atomic::AtomicU64;
 use std::thread;
 use std::thread::Threads;
+use worker_crew::deck_rooms;
 use worker_crew::sending::{crews_go_to_threads, workers_go_to_threads};
 use worker_turns::work;
+
+/// The crew of a job that has leaves, and its workers, as `Crew::make` makes them, but with each worker's deques made
+/// in a thread of its own where one can be started.
+fn make_crew<'a, R: Threads + Sync, G: Pause>(
+    rt: &R,
+    alloc: Global,
+    job: &Job,
+    workers: u32,
+    pause: &'a G,
+) -> Result<(Crew<'a, G>, Vec<Me>), AllocError>
+    requires leaves { IsSome job.now.shape }
+    requires workers { (0 < workers) × (workers ≤ 32) }
+    ensures job { IfOk result (λ made. (planned_in made.0.table ≡ job.now)
+        × ((job_in made.0.table).workers ≡ workers)) }
+    ensures workers { IfOk result (λ made. made.0.workers ≡ workers) }
+    ensures rooms { IfOk result (λ made. HaveRooms made.0.table made.0.decks) }
+    ensures start { IfOk result (λ made. AreAtStart made.0.table made.0.decks made.0.board
+        workers workers made.1.items) }
+{
+    let (table, passes) = CoreTable::make(alloc, job, workers)?;
+    let rooms = deck_rooms(&table);
+    let (decks, hands) = make_decks(rt, alloc, workers, rooms)?;
+    Crew::of(alloc, workers, table, passes, decks, hands, pause)
+}
 
 /// What the threads of a run over the running table share. The threads are started over any `Sync` team, so that `Sync`
 /// of a crew is shown only once.
@@ -135,7 +163,8 @@ fn close(alloc: Global, table: CoreTable, pass: Pass) -> Result<Report, AllocErr
 /// deques and steals from those of the others. Calls become batches, and a worker that waits for its call helps with
 /// the pieces. No step takes a lock. Where a thread cannot be spawned, the caller does its work. All threads are joined
 /// before this returns, also where memory ran out: the worker that ran out sets the stop word, and the run then returns
-/// an error.
+/// an error. Each worker's deques are made by a thread of its own before the workers begin, and dropped by one after
+/// they end.
 ///
 /// The gate is called where a worker has started a leaf, where it has posted a call, where it has won the flag, and
 /// where it is about to run a piece.
@@ -154,14 +183,15 @@ pub fn run_table<R: Threads + Wait + Sync, G: Pause + Sync>(
     if let Some(report) = report_of_empty(alloc, job, workers) {
         return Ok(report);
     }
-    let (crew, mes) = Crew::make(alloc, job, workers, pause)?;
+    let (crew, mes) = make_crew(rt, alloc, job, workers, pause)?;
     let mut passes = work_as_crew(rt, alloc, &crew, mes)?;
     let Crew {
         table,
-        decks: _,
+        decks,
         board: _,
         workers: _,
         pause: _,
     } = crew;
+    drop_decks(rt, alloc, decks);
     close(alloc, table, passes.remove(0))
 }

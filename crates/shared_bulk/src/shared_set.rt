@@ -1,11 +1,11 @@
 //! A set whose calls carry many keys, which threads share, and whose callers help each other.
-ghost use Rattle.std.specs.Prelude.{◌≡◌, ℕ, ◌<◌, ◌≤◌, false, true, length, slice_index_or, IfOk, IfErr, IfSome, IfNone, OnOk};
+ghost use Rattle.std.specs.Prelude.{◌≡◌, ℕ, ◌<◌, ◌≤◌, false, true, length, slice_index_or, IfOk, IfErr, IfSome, IfNone, OnSome, OnOk};
 ghost use Rattle.piece_board.specs.Boards.{desk_view, IsDeskOf};
 ghost use Rattle.piece_board.specs.Desks.{fresh_desk};
 ghost use Rattle.shared_calls.specs.Logs.{state_after};
 ghost use Rattle.shared_calls.specs.Callers.{IsServed, IsUnserved};
 ghost use Rattle.shared_calls.specs.Views.{IsNewCaller, IsCallerOf, IfRefused, IfLost, number_of_callers, number_of, made, seen, is_lost};
-ghost use Rattle.shared_calls.specs.Closing.{AreCallersOf, AreAllCalls};
+ghost use Rattle.shared_calls.specs.Closing.{AreCallersOf, AreAllCalls, SomeIsLost, NoneIsLost};
 ghost use Rattle.shared_collections.specs.Bulks.{asked, bulk_set};
 
 use crate::bulk::{BatchRest, BulkInPieces};
@@ -148,7 +148,9 @@ impl SharedBulkSetInPieces {
     pub fn close(self, callers: Vec<Caller<BulkInPieces>>) -> Option<BulkSet>
         requires callers { AreCallersOf self.shared callers.items }
         ensures kept { IfSome result (λ set. (log : _) × AreAllCalls bulk_set callers.items log × (set ≡ state_after bulk_set log)) }
+        ensures sound { OnSome result (NoneIsLost callers.items) }
         ensures lost { IfNone result ((log : _) × AreAllCalls bulk_set callers.items log) }
+        ensures told { IfNone result (SomeIsLost callers.items) }
     {
         let SharedBulkSetInPieces {
             shared,

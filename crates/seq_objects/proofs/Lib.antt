@@ -9,3 +9,5 @@ pub mod Filters
 pub mod Meets
 mod Members
 pub mod Numbers
+pub mod Verbs
+pub mod Parts

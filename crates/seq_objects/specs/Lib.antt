@@ -1,5 +1,7 @@
 -- The serial objects, the calls of a batch and their order, the work of a leaf, and the text of operations and replies.
 -- `Code` is internal to the crate's code and proofs.
+pub mod Verbs
+pub mod Parts
 pub mod Objects
 pub mod BatchOrder
 pub mod Batches

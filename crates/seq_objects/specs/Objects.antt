@@ -8,6 +8,8 @@ use Rattle.seq_objects.specs.declared.reply.Reply.{Reply}
 use Rattle.seq_objects.specs.declared.reply.Reply.TheVariants as reply
 -- sets of keys: membership, insertion, removal, and the least key strictly greater than a number
 pub use Rattle.key_sets.specs.Keys.{has, with_key, without_key, least_above}
+-- the number of an operation's object among those of its kind; the number that it carries, or 0 if it carries none
+pub use Rattle.seq_objects.specs.Parts.{number_of, argument_of}
 
 -- a counter; a stack, whose last item is the top; a strictly ascending set; an ascending bag, which may have repeats
 pub record Objects : Type 0 where
@@ -75,30 +77,6 @@ reply_to objects op = (serve objects op).1
 abbrev pub CanServe : Objects → Op → Type 0
 CanServe objects (CounterAdd number addend) = objects.counter + addend < 2 ^ 64
 CanServe objects _ = ⊤
-
--- the number of an operation's object among those of its kind
-abbrev pub number_of : Op → ℕ
-number_of (CounterAdd number addend) = number
-number_of (Push number item) = number
-number_of (Pop number) = number
-number_of (TreeInsert number key) = number
-number_of (TreeRemove number key) = number
-number_of (TreeFind number key) = number
-number_of (TreeNext number key) = number
-number_of (PqInsert number item) = number
-number_of (PqTake number) = number
-
--- the number that an operation carries, or 0 if it carries none
-abbrev pub argument_of : Op → ℕ
-argument_of (CounterAdd number addend) = addend
-argument_of (Push number item) = item
-argument_of (Pop number) = 0
-argument_of (TreeInsert number key) = key
-argument_of (TreeRemove number key) = key
-argument_of (TreeFind number key) = key
-argument_of (TreeNext number key) = key
-argument_of (PqInsert number item) = item
-argument_of (PqTake number) = 0
 
 -- the value of a leaf with this reply: the number, 1 for `Yes`, and 0 for every other reply
 abbrev pub value_of : Reply → ℕ

@@ -1,9 +1,13 @@
 //! The laws of the serial objects, each stated as the contract of an empty function.
 ghost use Rattle.std.specs.List.{AllByRecursion};
-ghost use Rattle.std.specs.Prelude.{[], ◌≡◌, ◌↔◌, ℕ, ◌+◌, ◌<◌, Bool, IsTrue, not, ◌&&◌, ◌||◌, ◌==◌, ◌++◌, nat_lt, filter, length, List, Some};
+ghost use Rattle.std.specs.Prelude.{[], ◌≡◌, ◌↔◌, ℕ, ◌+◌, ◌<◌, Bool, if◌then◌else◌, IsTrue, not, ◌&&◌, ◌||◌, ◌==◌, ◌++◌, nat_lt, filter, length, List, Some};
 ghost use Rattle.seq_objects.specs.declared.call.Call.{Call};
 ghost use Rattle.seq_objects.specs.declared.op.Op.{Op};
 ghost use Rattle.seq_objects.specs.declared.reply.Reply.{Reply};
+ghost use Rattle.seq_objects.specs.declared.verb.Verb.{Verb};
+ghost use Rattle.seq_objects.specs.declared.verb.VerbWord.{VerbWord};
+ghost use Rattle.seq_objects.specs.Verbs.{Kind, is_word, kind_by_text, kind_of_verb, kind_text, takes_argument, verb_by, word_by_text, word_of_verb, word_text};
+ghost use Rattle.seq_objects.specs.Parts.{argument_of, op_of, verb_of};
 ghost use Rattle.seq_objects.specs.Objects.{Objects, opening, after, has, with_key, without_key, least_above, with_item, least, without_least, number_of};
 ghost use Rattle.seq_objects.specs.BatchOrder.{class_of};
 ghost use Rattle.seq_objects.specs.Batches.{ObjectKind, AreInBatchOrder, AreOneBatch, AreOf, calls_of, calls_at};
@@ -14,6 +18,33 @@ ghost use Rattle.seq_objects.specs.Orders.{StrictlyAscends, Ascends, AreInOrder,
 use crate::act::Act;
 use crate::op::Op;
 use crate::reply::Reply;
+
+/// An operation is put together from its parts, and has the parts that it is put together from; a verb without argument
+/// leaves the argument out. Two operations are one where their parts are.
+pub fn operations_are_their_parts()
+    ensures whole { (op : Op) → op_of (verb_of op) (number_of op) (argument_of op) ≡ op }
+    ensures verb { (verb : Verb) (number argument : ℕ) → verb_of (op_of verb number argument) ≡ verb }
+    ensures number { (verb : Verb) (number argument : ℕ) → number_of (op_of verb number argument) ≡ number }
+    ensures argument { (verb : Verb) (number argument : ℕ) → argument_of (op_of verb number argument) ≡ (if takes_argument verb then argument else 0) }
+    ensures same { (a b : Op) → verb_of a ≡ verb_of b → number_of a ≡ number_of b → argument_of a ≡ argument_of b → a ≡ b }
+{}
+
+/// Each verb is found by the kind of its objects and its word, and what is found has this kind and this word.
+pub fn verbs_are_by_kind_and_word()
+    ensures found { (verb : Verb) → verb_by (kind_of_verb verb) (word_of_verb verb) ≡ Some verb }
+    ensures has { (kind : Kind) (word : VerbWord) (verb : Verb) → verb_by kind word ≡ Some verb → (kind_of_verb verb ≡ kind) × (word_of_verb verb ≡ word) }
+{}
+
+/// Each kind and each word is found by its text, and what is found has this text. A text has at least one byte, and each
+/// is `a` to `z`.
+pub fn texts_are_of_one()
+    ensures kind { (kind : Kind) → kind_by_text (kind_text kind) ≡ Some kind }
+    ensures kind_has { (text : List ℕ) (kind : Kind) → kind_by_text text ≡ Some kind → kind_text kind ≡ text }
+    ensures kind_letters { (kind : Kind) → IsTrue (is_word (kind_text kind)) }
+    ensures word { (word : VerbWord) → word_by_text (word_text word) ≡ Some word }
+    ensures word_has { (text : List ℕ) (word : VerbWord) → word_by_text text ≡ Some word → word_text word ≡ text }
+    ensures word_letters { (word : VerbWord) → IsTrue (is_word (word_text word)) }
+{}
 
 /// Every operation keeps the set strictly ascending and the bag ascending.
 pub fn objects_stay_in_order()

@@ -4,11 +4,12 @@ use Rattle.std.specs.Prelude.{◌≡◌, ◌≢◌, ℕ, ◌+◌, ◌-◌, ◌<�
 use Rattle.std.specs.List.{AllByRecursion}
 use Rattle.job_names.specs.Names.{AreSpelled}
 use Rattle.seq_objects.specs.declared.op.Op.{Op}
-use Rattle.seq_objects.specs.declared.op.Op.TheVariants.{CounterAdd, Push, Pop, TreeInsert, TreeRemove, TreeFind, TreeNext, PqInsert, PqTake}
 use Rattle.seq_objects.specs.declared.act.Act.{Act}
 use Rattle.seq_objects.specs.declared.act.Act.TheVariants.{Work, Call}
 use Rattle.seq_objects.specs.Batches.{kind_of}
 use Rattle.seq_objects.specs.Objects.{number_of}
+-- the operation on the object with this number of its kind
+pub use Rattle.seq_objects.specs.Parts.{with_number}
 
 -- the number of the object that an act calls, and 0 for work
 abbrev pub number_in : Act → ℕ
@@ -18,18 +19,6 @@ number_in (Call op) = number_of op
 -- all calls are of objects with the number 0
 abbrev pub AreUnnamed : List Act → Type 0
 AreUnnamed acts = AllByRecursion (λ act. number_in act ≡ 0) acts
-
--- the operation on the object with this number of its kind
-abbrev pub with_number : Op → ℕ → Op
-with_number (CounterAdd _ addend) number = CounterAdd number addend
-with_number (Push _ item) number = Push number item
-with_number (Pop _) number = Pop number
-with_number (TreeInsert _ key) number = TreeInsert number key
-with_number (TreeRemove _ key) number = TreeRemove number key
-with_number (TreeFind _ key) number = TreeFind number key
-with_number (TreeNext _ key) number = TreeNext number key
-with_number (PqInsert _ item) number = PqInsert number item
-with_number (PqTake _) number = PqTake number
 
 -- the call on the object with this number; work stays
 abbrev pub numbered : Act → ℕ → Act

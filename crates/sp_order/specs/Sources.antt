@@ -1,33 +1,16 @@
 -- Sources: the leaves whose replies are the arguments of later calls.
-use Rattle.std.specs.Prelude.{◌≡◌, ℕ, ◌%◌, ◌^◌, Bool, true, false, List, length, Option, Some, slice_get}
+use Rattle.std.specs.Prelude.{◌≡◌, ℕ, ◌%◌, ◌^◌, true, List, length, Option, Some, slice_get}
 use Rattle.seq_objects.specs.declared.op.Op.{Op}
-use Rattle.seq_objects.specs.declared.op.Op.TheVariants.{CounterAdd, Push, Pop, TreeInsert, TreeRemove, TreeFind, TreeNext, PqInsert, PqTake}
 use Rattle.seq_objects.specs.declared.act.Act.{Act}
 use Rattle.seq_objects.specs.declared.act.Act.TheVariants.{Call}
 use Rattle.seq_objects.specs.Objects.{argument_of}
 use Rattle.sp_order.specs.Precedence.{Tree, IsBefore}
-
--- the operation with this number as its argument; an operation without an argument stays
-abbrev pub with_argument : Op → ℕ → Op
-with_argument (CounterAdd number _) argument = CounterAdd number argument
-with_argument (Push number _) argument = Push number argument
-with_argument (Pop number) argument = Pop number
-with_argument (TreeInsert number _) argument = TreeInsert number argument
-with_argument (TreeRemove number _) argument = TreeRemove number argument
-with_argument (TreeFind number _) argument = TreeFind number argument
-with_argument (TreeNext number _) argument = TreeNext number argument
-with_argument (PqInsert number _) argument = PqInsert number argument
-with_argument (PqTake number) argument = PqTake number
+-- the operation with this number as its argument, if it has one; whether the operation takes an argument
+pub use Rattle.seq_objects.specs.Parts.{with_argument, has_argument}
 
 -- the operation with the low 32 bits of a value as its argument
 abbrev pub with_value : Op → ℕ → Op
 with_value op value = with_argument op (value % 2 ^ 32)
-
--- the operation takes an argument
-abbrev pub has_argument : Op → Bool
-has_argument (Pop number) = false
-has_argument (PqTake number) = false
-has_argument _ = true
 
 -- the leaf's act is a call
 abbrev pub IsCallLeaf : List Act → ℕ → Type 0

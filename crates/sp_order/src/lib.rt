@@ -21,4 +21,4 @@ pub use node::{Kind, Move};
 pub use plan::Plan;
 pub use planned::PlannedJob;
 pub use shape::Shape;
-pub use sources::{with_argument, with_value};
+pub use sources::with_value;

@@ -1,25 +1,8 @@
 //! The numbers of the objects that a job's leaves call.
 ghost use Rattle.std.specs.Prelude.{◌≡◌, length};
-ghost use Rattle.sp_order.specs.Objects.{numbered as on_object, with_number as on_number, with_numbers as on_objects};
+ghost use Rattle.sp_order.specs.Objects.{numbered as on_object, with_numbers as on_objects};
 
-use seq_objects::{Act, Op};
-
-/// The operation on the object with this number of its kind.
-fn with_number(op: Op, number: u32) -> Op
-    ensures { result ≡ on_number op number }
-{
-    match op {
-        Op::CounterAdd(_, addend) => Op::CounterAdd(number, addend),
-        Op::Push(_, item) => Op::Push(number, item),
-        Op::Pop(_) => Op::Pop(number),
-        Op::TreeInsert(_, key) => Op::TreeInsert(number, key),
-        Op::TreeRemove(_, key) => Op::TreeRemove(number, key),
-        Op::TreeFind(_, key) => Op::TreeFind(number, key),
-        Op::TreeNext(_, key) => Op::TreeNext(number, key),
-        Op::PqInsert(_, item) => Op::PqInsert(number, item),
-        Op::PqTake(_) => Op::PqTake(number),
-    }
-}
+use seq_objects::Act;
 
 /// The act, called on the object with this number if it is a call.
 fn numbered(act: Act, number: u32) -> Act
@@ -27,7 +10,7 @@ fn numbered(act: Act, number: u32) -> Act
 {
     match act {
         Act::Work(steps) => Act::Work(steps),
-        Act::Call(op) => Act::Call(with_number(op, number)),
+        Act::Call(op) => Act::Call(op.with_number(number)),
     }
 }
 

@@ -1,7 +1,7 @@
 //! The sources of a job's leaves: a leaf's source is the leaf whose reply is the argument of its call.
 ghost use Rattle.std.specs.Prelude.{◌≡◌, ℕ, ◌+◌, ◌<◌, length, Some, IfOk, slice_get};
 ghost use Rattle.sp_order.specs.Code.SourcesView.{listed};
-ghost use Rattle.sp_order.specs.Sources.{with_argument as argued, with_value as valued};
+ghost use Rattle.sp_order.specs.Sources.{with_value as valued};
 
 use seq_objects::Op;
 use std::alloc::{AllocError, Global};
@@ -42,26 +42,9 @@ impl Sources {
     }
 }
 
-/// The operation with its argument replaced by this one. A pop and a take of the queue have none, and stay.
-pub fn with_argument(op: Op, argument: u32) -> Op
-    ensures { result ≡ argued op argument }
-{
-    match op {
-        Op::CounterAdd(number, _) => Op::CounterAdd(number, argument),
-        Op::Push(number, _) => Op::Push(number, argument),
-        Op::Pop(number) => Op::Pop(number),
-        Op::TreeInsert(number, _) => Op::TreeInsert(number, argument),
-        Op::TreeRemove(number, _) => Op::TreeRemove(number, argument),
-        Op::TreeFind(number, _) => Op::TreeFind(number, argument),
-        Op::TreeNext(number, _) => Op::TreeNext(number, argument),
-        Op::PqInsert(number, _) => Op::PqInsert(number, argument),
-        Op::PqTake(number) => Op::PqTake(number),
-    }
-}
-
 /// The operation with the low 32 bits of this value as its argument.
 pub fn with_value(op: Op, value: u64) -> Op
     ensures { result ≡ valued op value }
 {
-    with_argument(op, (value % 0x1_0000_0000) as u32)
+    op.with_argument((value % 0x1_0000_0000) as u32)
 }

@@ -1,0 +1,97 @@
+-- The table of verbs: what is looked up by a kind and a word, or by a text, and what the texts are.
+use Rattle.std.proofs.Common.{◌≡◌, ℕ, Bool, true, false, ◌&&◌, Option, None, Some, List, [], ◌∷◌, refl, sym, ap, ◌∙◌, cond}
+use Rattle.std.specs.List.{find}
+use Rattle.std.specs.Str.{bytes_eq}
+use Rattle.std.proofs.lemmas.Slice.Eq.{bytes_eq-Decides}
+use Rattle.seq_objects.specs.declared.verb.Verb.{Verb}
+use Rattle.seq_objects.specs.declared.verb.Verb.TheVariants as verb
+use Rattle.seq_objects.specs.declared.verb.VerbWord.{VerbWord}
+use Rattle.seq_objects.specs.declared.verb.VerbWord.TheVariants as word
+use Rattle.seq_objects.specs.Verbs.{Kind, Counter, Stack, Tree, Queue, kind_of_verb, word_of_verb, kind_text, word_text, same_kind, same_word, kinds, verb_words, verbs, kind_by_text, word_by_text, verb_by, is_word}
+use Rattle.seq_objects.proofs.Filters.{same_is}
+
+-- the texts
+pub kind_is_word : (kind : Kind) → is_word (kind_text kind) ≡ true
+kind_is_word Counter = refl
+kind_is_word Stack = refl
+kind_is_word Tree = refl
+kind_is_word Queue = refl
+
+pub word_is_word : (word : VerbWord) → is_word (word_text word) ≡ true
+word_is_word word.Add = refl
+word_is_word word.Push = refl
+word_is_word word.Pop = refl
+word_is_word word.Insert = refl
+word_is_word word.Remove = refl
+word_is_word word.Find = refl
+word_is_word word.Next = refl
+word_is_word word.Take = refl
+
+-- what is found by its own text
+pub kind_found : (kind : Kind) → kind_by_text (kind_text kind) ≡ Some kind
+kind_found Counter = refl
+kind_found Stack = refl
+kind_found Tree = refl
+kind_found Queue = refl
+
+pub word_found : (word : VerbWord) → word_by_text (word_text word) ≡ Some word
+word_found word.Add = refl
+word_found word.Push = refl
+word_found word.Pop = refl
+word_found word.Insert = refl
+word_found word.Remove = refl
+word_found word.Find = refl
+word_found word.Next = refl
+word_found word.Take = refl
+
+pub verb_found : (verb : Verb) → verb_by (kind_of_verb verb) (word_of_verb verb) ≡ Some verb
+verb_found verb.CounterAdd = refl
+verb_found verb.Push = refl
+verb_found verb.Pop = refl
+verb_found verb.TreeInsert = refl
+verb_found verb.TreeRemove = refl
+verb_found verb.TreeFind = refl
+verb_found verb.TreeNext = refl
+verb_found verb.PqInsert = refl
+verb_found verb.PqTake = refl
+
+abbrev or_of : {X : Type 0} → X → Option X → X
+or_of other None = other
+or_of other (Some x) = x
+
+some_same : {X : Type 0} (x y : X) → Some x ≡ Some y → x ≡ y
+some_same x y is = ap (or_of x) is
+
+-- kinds with one text are one, and so are words
+pub same_kind_text : (a b : Kind) → kind_text a ≡ kind_text b → a ≡ b
+same_kind_text a b is = some_same a b (sym (kind_found a) ∙ ap (λ text. kind_by_text text) is ∙ kind_found b)
+
+pub same_word_text : (a b : VerbWord) → word_text a ≡ word_text b → a ≡ b
+same_word_text a b is = some_same a b (sym (word_found a) ∙ ap (λ text. word_by_text text) is ∙ word_found b)
+
+-- what is found passes the test
+passes : {X : Type 0} (p : X → Bool) (xs : List X) (x : X) → find p xs ≡ Some x → p x ≡ true
+passes p [] x is = cc
+passes p (first ∷ xs) x found = step (p first) refl found (passes p xs x) where
+  step : (b : Bool) → p first ≡ b → cond b (Some first) (find p xs) ≡ Some x → (find p xs ≡ Some x → p x ≡ true) → p x ≡ true
+  step true is found later = ap p (sym (some_same first x found)) ∙ is
+  step false is found later = later found
+
+pub bytes_same : (a b : List ℕ) → bytes_eq a b ≡ true → a ≡ b
+bytes_same a b is = (bytes_eq-Decides a b).0 is
+
+pub kind_has_text : (text : List ℕ) (kind : Kind) → kind_by_text text ≡ Some kind → kind_text kind ≡ text
+kind_has_text text kind is = sym (bytes_same text (kind_text kind) (passes (λ kind. bytes_eq text (kind_text kind)) kinds kind is))
+
+pub word_has_text : (text : List ℕ) (word : VerbWord) → word_by_text text ≡ Some word → word_text word ≡ text
+word_has_text text word is = sym (bytes_same text (word_text word) (passes (λ word. bytes_eq text (word_text word)) verb_words word is))
+
+both : (a b : Bool) → (a && b) ≡ true → (a ≡ true) × (b ≡ true)
+both true true is = (refl, refl)
+both true false is = cc
+both false b is = cc
+
+pub verb_has_parts : (kind : Kind) (word : VerbWord) (verb : Verb) → verb_by kind word ≡ Some verb → (kind_of_verb verb ≡ kind) × (word_of_verb verb ≡ word)
+verb_has_parts kind word verb is =
+    let same = both _ _ (passes (λ verb. same_kind (kind_of_verb verb) kind && same_word (word_of_verb verb) word) verbs verb is) in
+    (sym (same_is (kind_of_verb verb) kind same.0), same_word_text (word_of_verb verb) word (bytes_same (word_text (word_of_verb verb)) (word_text word) same.1))

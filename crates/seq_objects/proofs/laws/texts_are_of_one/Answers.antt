@@ -1,0 +1,20 @@
+use Rattle.seq_objects.proofs.Verbs.{kind_found, kind_has_text, kind_is_word, word_found, word_has_text, word_is_word}
+use Rattle.seq_objects.proofs.laws.texts_are_of_one.Goals as goal
+
+pub returns-clause-kind : goal.returns-clause-kind
+returns-clause-kind c = kind_found
+
+pub returns-clause-kind_has : goal.returns-clause-kind_has
+returns-clause-kind_has c = kind_has_text
+
+pub returns-clause-kind_letters : goal.returns-clause-kind_letters
+returns-clause-kind_letters c = kind_is_word
+
+pub returns-clause-word : goal.returns-clause-word
+returns-clause-word c = word_found
+
+pub returns-clause-word_has : goal.returns-clause-word_has
+returns-clause-word_has c = word_has_text
+
+pub returns-clause-word_letters : goal.returns-clause-word_letters
+returns-clause-word_letters c = word_is_word

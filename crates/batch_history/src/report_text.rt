@@ -10,7 +10,8 @@ ghost use Rattle.batch_history.specs.Text.{HaveNames, batch_lines, book_lines, r
 use crate::batch::{Batch, Entry};
 use crate::report::Report;
 use crate::row::Row;
-use crate::words::{push_number, push_op, push_reply};
+use crate::words::{push_number, push_reply};
+use call_words::push_op;
 use job_names::Name;
 use sp_order::Job;
 use std::alloc::{AllocError, Global};

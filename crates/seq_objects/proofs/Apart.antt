@@ -1,61 +1,36 @@
 -- The objects are independent: an operation on one neither changes the others nor depends on them.
 use Rattle.std.proofs.Common.{◌≡◌, Bool, true, false, cond, List, [], ◌∷◌, length, refl, ap, sym, subst, arith, ◌∙◌}
 use Rattle.seq_objects.specs.declared.op.Op.{Op}
-use Rattle.seq_objects.specs.declared.op.Op.TheVariants.{CounterAdd, Push, Pop, TreeInsert, TreeRemove, TreeFind, TreeNext, PqInsert, PqTake}
+use Rattle.seq_objects.specs.declared.op.Op.TheVariants.{CounterAdd}
 use Rattle.seq_objects.specs.declared.call.Call.{Call}
 use Rattle.seq_objects.specs.declared.reply.Reply.{Reply}
 use Rattle.seq_objects.specs.Objects.{Objects, after, reply_to}
-use Rattle.seq_objects.specs.Batches.{ObjectKind, Counter, Stack, Tree, Queue, AreOf, kind_of, same_kind, calls_of}
+use Rattle.seq_objects.specs.Batches.{Kind, Counter, Stack, Tree, Queue, AreOf, kind_of, same_kind, calls_of}
 use Rattle.seq_objects.specs.Serial.{after_all, replies_to_all, alone, with_kind, replies_of, after_by_kind}
-use Rattle.seq_objects.proofs.Filters.{same_is}
+use Rattle.seq_objects.proofs.Verbs.{same_is, same_self}
 
 reply_alone : (op : Op) (objects : Objects) → reply_to objects op ≡ reply_to (alone (kind_of op) objects) op
 reply_alone (CounterAdd number addend) objects = refl
-reply_alone (Push number item) objects = refl
-reply_alone (Pop number) objects = refl
-reply_alone (TreeInsert number key) objects = refl
-reply_alone (TreeRemove number key) objects = refl
-reply_alone (TreeFind number key) objects = refl
-reply_alone (TreeNext number key) objects = refl
-reply_alone (PqInsert number item) objects = refl
-reply_alone (PqTake number) objects = refl
+reply_alone _ objects = refl
 
 after_alone : (op : Op) (objects : Objects) → after objects op ≡ with_kind (kind_of op) objects (after (alone (kind_of op) objects) op)
 after_alone (CounterAdd number addend) objects = refl
-after_alone (Push number item) objects = refl
-after_alone (Pop number) objects = refl
-after_alone (TreeInsert number key) objects = refl
-after_alone (TreeRemove number key) objects = refl
-after_alone (TreeFind number key) objects = refl
-after_alone (TreeNext number key) objects = refl
-after_alone (PqInsert number item) objects = refl
-after_alone (PqTake number) objects = refl
+after_alone _ objects = refl
 
 alone_after : (op : Op) (objects : Objects) → alone (kind_of op) (after objects op) ≡ after (alone (kind_of op) objects) op
 alone_after (CounterAdd number addend) objects = refl
-alone_after (Push number item) objects = refl
-alone_after (Pop number) objects = refl
-alone_after (TreeInsert number key) objects = refl
-alone_after (TreeRemove number key) objects = refl
-alone_after (TreeFind number key) objects = refl
-alone_after (TreeNext number key) objects = refl
-alone_after (PqInsert number item) objects = refl
-alone_after (PqTake number) objects = refl
+alone_after _ objects = refl
 
-with_own : (kind : ObjectKind) (objects : Objects) → objects ≡ with_kind kind objects (alone kind objects)
+with_own : (kind : Kind) (objects : Objects) → objects ≡ with_kind kind objects (alone kind objects)
 with_own Counter objects = refl
-with_own Stack objects = refl
-with_own Tree objects = refl
-with_own Queue objects = refl
+with_own _ objects = refl
 
-with_twice : (kind : ObjectKind) (objects others more : Objects) → with_kind kind (with_kind kind objects others) more ≡ with_kind kind objects more
+with_twice : (kind : Kind) (objects others more : Objects) → with_kind kind (with_kind kind objects others) more ≡ with_kind kind objects more
 with_twice Counter objects others more = refl
-with_twice Stack objects others more = refl
-with_twice Tree objects others more = refl
-with_twice Queue objects others more = refl
+with_twice _ objects others more = refl
 
 -- the replies to calls of one kind are those that it gives alone
-pub replies_alone : (kind : ObjectKind) (objects : Objects) (calls : List Call) → AreOf kind calls → replies_to_all objects calls ≡ replies_to_all (alone kind objects) calls
+pub replies_alone : (kind : Kind) (objects : Objects) (calls : List Call) → AreOf kind calls → replies_to_all objects calls ≡ replies_to_all (alone kind objects) calls
 replies_alone kind objects [] of = refl
 replies_alone kind objects (call ∷ calls) of =
     let rest = replies_alone kind (after objects call.op) calls of.1 in
@@ -64,7 +39,7 @@ replies_alone kind objects (call ∷ calls) of =
     rw (reply, rest, next) refl
 
 -- calls of one kind change this kind alone, as they do without the others
-pub content_alone : (kind : ObjectKind) (objects : Objects) (calls : List Call) → AreOf kind calls → after_all objects calls ≡ with_kind kind objects (after_all (alone kind objects) calls)
+pub content_alone : (kind : Kind) (objects : Objects) (calls : List Call) → AreOf kind calls → after_all objects calls ≡ with_kind kind objects (after_all (alone kind objects) calls)
 content_alone kind objects [] of = with_own kind objects
 content_alone kind objects (call ∷ calls) of =
     let rest = content_alone kind (after objects call.op) calls of.1 in
@@ -75,31 +50,14 @@ content_alone kind objects (call ∷ calls) of =
     ∙ with_twice kind objects (after (alone kind objects) call.op) last
 
 -- replacing another kind leaves this one unchanged
-other_kept : (kind other : ObjectKind) (objects others : Objects) → same_kind kind other ≡ false → alone kind (with_kind other objects others) ≡ alone kind objects
+other_kept : (kind other : Kind) (objects others : Objects) → same_kind kind other ≡ false → alone kind (with_kind other objects others) ≡ alone kind objects
 other_kept Counter Counter objects others differ = absurd cc
-other_kept Counter Stack objects others differ = refl
-other_kept Counter Tree objects others differ = refl
-other_kept Counter Queue objects others differ = refl
-other_kept Stack Counter objects others differ = refl
 other_kept Stack Stack objects others differ = absurd cc
-other_kept Stack Tree objects others differ = refl
-other_kept Stack Queue objects others differ = refl
-other_kept Tree Counter objects others differ = refl
-other_kept Tree Stack objects others differ = refl
 other_kept Tree Tree objects others differ = absurd cc
-other_kept Tree Queue objects others differ = refl
-other_kept Queue Counter objects others differ = refl
-other_kept Queue Stack objects others differ = refl
-other_kept Queue Tree objects others differ = refl
 other_kept Queue Queue objects others differ = absurd cc
+other_kept _ _ objects others differ = refl
 
-pub same_self : (kind : ObjectKind) → same_kind kind kind ≡ true
-same_self Counter = refl
-same_self Stack = refl
-same_self Tree = refl
-same_self Queue = refl
-
-module _ (kind : ObjectKind) where
+module _ (kind : Kind) where
   -- a single operation: of this kind here, of another one in the next lemma
   own_next : (objects : Objects) (op : Op) → same_kind kind (kind_of op) ≡ true → (alone kind (after objects op) ≡ after (alone kind objects) op) × (reply_to objects op ≡ reply_to (alone kind objects) op)
   own_next objects op own =
@@ -136,7 +94,7 @@ each_content objects calls =
 
 -- two lists of replies that agree for each kind are equal
 pub same_replies : (calls : List Call) (replies others : List Reply) → length replies ≡ length calls → length others ≡ length calls
-    → ((kind : ObjectKind) → replies_of kind calls replies ≡ replies_of kind calls others) → replies ≡ others
+    → ((kind : Kind) → replies_of kind calls replies ≡ replies_of kind calls others) → replies ≡ others
 same_replies [] [] [] count count' same = refl
 same_replies [] [] (o ∷ others) count count' same = absurd (omega (arith, count'))
 same_replies [] (r ∷ replies) others count count' same = absurd (omega (arith, count))
@@ -155,5 +113,5 @@ same_replies (call ∷ calls) (r ∷ replies) (o ∷ others) count count' same =
       first : r ≡ o
       first = let own = kind_of call.op in first_of (same_kind own own) (replies_of own calls replies) (replies_of own calls others) (same_self own) (same own)
 
-      rest : (kind : ObjectKind) → replies_of kind calls replies ≡ replies_of kind calls others
+      rest : (kind : Kind) → replies_of kind calls replies ≡ replies_of kind calls others
       rest kind = rest_of (same_kind kind (kind_of call.op)) (replies_of kind calls replies) (replies_of kind calls others) (same kind)

@@ -3,9 +3,11 @@ use Rattle.std.proofs.Common.{◌≡◌, ◌≢◌, ℕ, ◌<◌, Bool, true, fa
 use Rattle.std.specs.List.{AllByRecursion}
 use Rattle.seq_objects.specs.declared.call.Call.{Call}
 use Rattle.seq_objects.specs.BatchOrder.{ComesFirst}
-use Rattle.seq_objects.specs.Batches.{ObjectKind, Counter, Stack, Tree, Queue, AreOneBatch, AreOf, kind_of, same_kind, calls_of}
+use Rattle.seq_objects.specs.Batches.{Kind, AreOneBatch, AreOf, kind_of, same_kind, calls_of}
 use Rattle.seq_objects.specs.Pairs.{AllPairsByRecursion}
 use Rattle.key_sets.proofs.Filters.{all_filter}
+-- `same_kind` decides equality of kinds
+pub use Rattle.seq_objects.proofs.Verbs.{same_is}
 
 pairs_filter : {A : Type 0} (R : A → A → Type 0) (passes : A → Bool) (xs : List A) → AllPairsByRecursion R xs → AllPairsByRecursion R (filter passes xs)
 pairs_filter R passes [] pairs = tt
@@ -37,26 +39,8 @@ some_are_a_batch passes calls batch some = record {
   below = all_filter (λ (call : Call). call.worker < 32) passes calls batch.below;
 }
 
--- `same_kind` decides equality of objects
-pub same_is : (a b : ObjectKind) → same_kind a b ≡ true → b ≡ a
-same_is Counter Counter is = refl
-same_is Counter Stack is = absurd cc
-same_is Counter Tree is = absurd cc
-same_is Counter Queue is = absurd cc
-same_is Stack Counter is = absurd cc
-same_is Stack Stack is = refl
-same_is Stack Tree is = absurd cc
-same_is Stack Queue is = absurd cc
-same_is Tree Counter is = absurd cc
-same_is Tree Stack is = absurd cc
-same_is Tree Tree is = refl
-same_is Tree Queue is = absurd cc
-same_is Queue Counter is = absurd cc
-same_is Queue Stack is = absurd cc
-same_is Queue Tree is = absurd cc
-same_is Queue Queue is = refl
-
-pub are_of : (kind : ObjectKind) (calls : List Call) → AreOf kind (calls_of kind calls)
+-- the calls of one kind are of this kind
+pub are_of : (kind : Kind) (calls : List Call) → AreOf kind (calls_of kind calls)
 are_of kind [] = tt
 are_of kind (call ∷ calls) = step (same_kind kind (kind_of call.op)) refl (are_of kind calls) where
   step : (b : Bool) → same_kind kind (kind_of call.op) ≡ b → AreOf kind (calls_of kind calls) → AreOf kind (cond b (call ∷ calls_of kind calls) (calls_of kind calls))

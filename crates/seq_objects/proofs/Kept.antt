@@ -5,7 +5,7 @@ use Rattle.std.specs.Ordering.{nat_cmp}
 use Rattle.std.specs.Option.{unwrap_or}
 use Rattle.std.proofs.lemmas.Bool.Decides.{nat_tests}
 use Rattle.seq_objects.specs.declared.op.Op.{Op}
-use Rattle.seq_objects.specs.declared.op.Op.TheVariants.{CounterAdd, Push, Pop, TreeInsert, TreeRemove, TreeFind, TreeNext, PqInsert, PqTake}
+use Rattle.seq_objects.specs.declared.op.Op.TheVariants.{CounterAdd, Push, TreeInsert, PqInsert}
 use Rattle.seq_objects.specs.declared.plain.Plain.{Plain}
 use Rattle.seq_objects.specs.Objects.{Objects, opening, after, number_of}
 use Rattle.seq_objects.specs.Stores.{Store, store_after, TakesNoMemory}
@@ -15,26 +15,18 @@ use Rattle.seq_objects.specs.Kept.{store_in}
 pub opening_stays : (op : Op) → InsertsNothing op → after opening op ≡ opening
 opening_stays (CounterAdd number addend) nothing = absurd nothing
 opening_stays (Push number item) nothing = absurd nothing
-opening_stays (Pop number) nothing = refl
 opening_stays (TreeInsert number key) nothing = absurd nothing
-opening_stays (TreeRemove number key) nothing = refl
-opening_stays (TreeFind number key) nothing = refl
-opening_stays (TreeNext number key) nothing = refl
 opening_stays (PqInsert number item) nothing = absurd nothing
-opening_stays (PqTake number) nothing = refl
+opening_stays _ nothing = refl
 
 -- an operation that inserts something into the opening objects may allocate
 pub may_allocate : (store : Store) (op : Op) → store (number_of op) ≡ opening → number_of op ≢ 0 → (InsertsNothing op → ⊥) → TakesNoMemory store op → ⊥
 may_allocate store (CounterAdd number addend) is above some (inl zero) = above zero
 may_allocate store (CounterAdd number addend) is above some (inr more) = omega (arith, ap (λ (o : Objects). o.counter) is, more)
 may_allocate store (Push number item) is above some none = none
-may_allocate store (Pop number) is above some none = some tt
 may_allocate store (TreeInsert number key) is above some none = none
-may_allocate store (TreeRemove number key) is above some none = some tt
-may_allocate store (TreeFind number key) is above some none = some tt
-may_allocate store (TreeNext number key) is above some none = some tt
 may_allocate store (PqInsert number item) is above some none = none
-may_allocate store (PqTake number) is above some none = some tt
+may_allocate store _ is above some none = some tt
 
 pub first_kept : (plain : Plain) (number : ℕ) → number ≡ 0 → store_in plain number ≡ plain.first
 unfolding store_in

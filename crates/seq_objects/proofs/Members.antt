@@ -3,7 +3,7 @@ use Rattle.std.proofs.Common.{◌≡◌, ℕ, ◌+◌, ◌<◌, ◌≤◌, List,
 use Rattle.std.specs.List.{AllByRecursion}
 use Rattle.std.proofs.lemmas.Bool.Decides.{nat_tests}
 use Rattle.seq_objects.specs.declared.op.Op.{Op}
-use Rattle.seq_objects.specs.declared.op.Op.TheVariants.{CounterAdd, Push, Pop, TreeInsert, TreeRemove, TreeFind, TreeNext, PqInsert, PqTake}
+use Rattle.seq_objects.specs.declared.op.Op.TheVariants.{TreeInsert, TreeRemove, TreeFind, TreeNext, PqInsert, PqTake}
 use Rattle.seq_objects.specs.Objects.{Objects, after, least, without_least}
 use Rattle.seq_objects.specs.Orders.{Ascends, AreInOrder, copies, one_if, IsLeast}
 use Rattle.seq_objects.proofs.Bags.{ascends_with as item_ascends, some_here}
@@ -15,15 +15,13 @@ rest_ascends [] up = tt
 rest_ascends (x ∷ bag) up = up.1
 
 pub stay_in_order : (objects : Objects) (op : Op) → AreInOrder objects → AreInOrder (after objects op)
-stay_in_order objects (CounterAdd number addend) h = record { set = h.set; bag = h.bag }
-stay_in_order objects (Push number item) h = record { set = h.set; bag = h.bag }
-stay_in_order objects (Pop number) h = record { set = h.set; bag = h.bag }
 stay_in_order objects (TreeInsert number key) h = record { set = ascends_with key objects.set h.set; bag = h.bag }
 stay_in_order objects (TreeRemove number key) h = record { set = ascends_without key objects.set h.set; bag = h.bag }
 stay_in_order objects (TreeFind number key) h = h
 stay_in_order objects (TreeNext number key) h = h
 stay_in_order objects (PqInsert number item) h = record { set = h.set; bag = item_ascends item objects.bag h.bag }
 stay_in_order objects (PqTake number) h = record { set = h.set; bag = rest_ascends objects.bag h.bag }
+stay_in_order objects _ h = record { set = h.set; bag = h.bag }
 
 -- the copies and the least number of a bag
 pub copies_taken : (item n : ℕ) (bag : List ℕ) → least bag ≡ Some item → copies n bag ≡ one_if (n == item) + copies n (without_least bag)

@@ -1,59 +1,59 @@
 -- The table of verbs: what is looked up by a kind and a word, or by a text, and what the texts are.
-use Rattle.std.proofs.Common.{◌≡◌, ℕ, Bool, true, false, ◌&&◌, Option, None, Some, List, [], ◌∷◌, refl, sym, ap, ◌∙◌, cond}
-use Rattle.std.specs.List.{find}
+use Rattle.std.proofs.Common.{◌≡◌, ℕ, ◌<◌, Bool, true, false, ◌&&◌, Option, None, Some, List, [], ◌∷◌, length, refl, sym, ap, subst, ◌∙◌, cond, arith}
+use Rattle.std.specs.List.{find, list_all}
+use Rattle.std.specs.Char.{is_ascii_lowercase}
 use Rattle.std.specs.Str.{bytes_eq}
 use Rattle.std.proofs.lemmas.Slice.Eq.{bytes_eq-Decides}
 use Rattle.seq_objects.specs.declared.verb.Verb.{Verb}
 use Rattle.seq_objects.specs.declared.verb.Verb.TheVariants as verb
 use Rattle.seq_objects.specs.declared.verb.VerbWord.{VerbWord}
 use Rattle.seq_objects.specs.declared.verb.VerbWord.TheVariants as word
-use Rattle.seq_objects.specs.Verbs.{Kind, Counter, Stack, Tree, Queue, kind_of_verb, word_of_verb, kind_text, word_text, same_kind, same_word, kinds, verb_words, verbs, kind_by_text, word_by_text, verb_by, is_word}
-use Rattle.seq_objects.proofs.Filters.{same_is}
+use Rattle.seq_objects.specs.Verbs.{Kind, Counter, Stack, Tree, Queue, kind_of_verb, word_of_verb, kind_text, word_text, same_kind, same_word, kinds, verb_words, verbs, kind_by_text, word_by_text, verb_by}
 
 -- the texts
-pub kind_is_word : (kind : Kind) → is_word (kind_text kind) ≡ true
-kind_is_word Counter = refl
-kind_is_word Stack = refl
-kind_is_word Tree = refl
-kind_is_word Queue = refl
+pub kind_some : (kind : Kind) → 0 < length (kind_text kind)
+kind_some Counter = omega arith
+kind_some _ = omega arith
 
-pub word_is_word : (word : VerbWord) → is_word (word_text word) ≡ true
-word_is_word word.Add = refl
-word_is_word word.Push = refl
-word_is_word word.Pop = refl
-word_is_word word.Insert = refl
-word_is_word word.Remove = refl
-word_is_word word.Find = refl
-word_is_word word.Next = refl
-word_is_word word.Take = refl
+pub kind_letters : (kind : Kind) → list_all is_ascii_lowercase (kind_text kind) ≡ true
+kind_letters Counter = refl
+kind_letters _ = refl
+
+pub word_some : (word : VerbWord) → 0 < length (word_text word)
+word_some word.Add = omega arith
+word_some _ = omega arith
+
+pub word_letters : (word : VerbWord) → list_all is_ascii_lowercase (word_text word) ≡ true
+word_letters word.Add = refl
+word_letters _ = refl
 
 -- what is found by its own text
 pub kind_found : (kind : Kind) → kind_by_text (kind_text kind) ≡ Some kind
 kind_found Counter = refl
-kind_found Stack = refl
-kind_found Tree = refl
-kind_found Queue = refl
+kind_found _ = refl
 
 pub word_found : (word : VerbWord) → word_by_text (word_text word) ≡ Some word
 word_found word.Add = refl
-word_found word.Push = refl
-word_found word.Pop = refl
-word_found word.Insert = refl
-word_found word.Remove = refl
-word_found word.Find = refl
-word_found word.Next = refl
-word_found word.Take = refl
+word_found _ = refl
 
 pub verb_found : (verb : Verb) → verb_by (kind_of_verb verb) (word_of_verb verb) ≡ Some verb
 verb_found verb.CounterAdd = refl
-verb_found verb.Push = refl
-verb_found verb.Pop = refl
-verb_found verb.TreeInsert = refl
-verb_found verb.TreeRemove = refl
-verb_found verb.TreeFind = refl
-verb_found verb.TreeNext = refl
-verb_found verb.PqInsert = refl
-verb_found verb.PqTake = refl
+verb_found _ = refl
+
+-- `same_kind` decides equality of kinds
+pub same_is : (a b : Kind) → same_kind a b ≡ true → b ≡ a
+same_is Counter Counter is = refl
+same_is Stack Stack is = refl
+same_is Tree Tree is = refl
+same_is Queue Queue is = refl
+same_is _ _ is = absurd cc
+
+pub same_self : (kind : Kind) → same_kind kind kind ≡ true
+same_self Counter = refl
+same_self _ = refl
+
+pub same_from : (a b : Kind) → a ≡ b → same_kind a b ≡ true
+same_from a b is = subst (λ k. same_kind a k ≡ true) is (same_self a)
 
 abbrev or_of : {X : Type 0} → X → Option X → X
 or_of other None = other

@@ -1,6 +1,7 @@
 -- The calls of one batch, and the object that each operation belongs to: one of a kind, with a number.
 use Rattle.std.specs.Prelude.{◌≡◌, ◌<◌, ◌==◌, ℕ, List, length, map, filter}
 use Rattle.std.specs.List.{AllByRecursion}
+use Rattle.limits.specs.declared.TheConstants.{MOST_WORKERS}
 use Rattle.seq_objects.specs.declared.call.Call.{Call}
 use Rattle.seq_objects.specs.Objects.{number_of}
 use Rattle.seq_objects.specs.BatchOrder.{ComesFirst}
@@ -13,19 +14,19 @@ pub use Rattle.seq_objects.specs.Parts.{kind_of}
 abbrev pub AreInBatchOrder : List Call → Type 0
 AreInBatchOrder calls = AllPairsByRecursion (λ first second. ComesFirst first.op first.worker second.op second.worker) calls
 
--- the calls form a batch: there is at least one, they are in batch order, and their workers are distinct and below 32
+-- the calls form a batch: there is at least one, they are in batch order, and their workers are distinct and of a run's
 pub record AreOneBatch (calls : List Call) : Type 0 where
   pub some : 0 < length calls
   pub order : AreInBatchOrder calls
   pub workers : AreDistinct (map (λ call. call.worker) calls)
-  pub below : AllByRecursion (λ call. call.worker < 32) calls
+  pub below : AllByRecursion (λ call. call.worker < MOST_WORKERS) calls
 
--- the kind of a shared object
+-- the kind of a shared object, under its other name
 abbrev pub ObjectKind : Type 0
 ObjectKind = Kind
 
 -- all calls are of one kind
-abbrev pub AreOf : ObjectKind → List Call → Type 0
+abbrev pub AreOf : Kind → List Call → Type 0
 AreOf kind calls = AllByRecursion (λ call. kind_of call.op ≡ kind) calls
 
 -- all calls are of objects with one number
@@ -33,7 +34,7 @@ abbrev pub AreOfOneNumber : List Call → Type 0
 AreOfOneNumber calls = (number : ℕ) × AllByRecursion (λ call. number_of call.op ≡ number) calls
 
 -- the calls of one kind, in their order
-abbrev pub calls_of : ObjectKind → List Call → List Call
+abbrev pub calls_of : Kind → List Call → List Call
 calls_of kind calls = filter (λ call. same_kind kind (kind_of call.op)) calls
 
 -- the calls of objects with one number, in their order

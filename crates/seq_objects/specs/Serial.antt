@@ -3,7 +3,7 @@ use Rattle.std.specs.Prelude.{ℕ, if◌then◌else◌, List, [], ◌∷◌}
 use Rattle.seq_objects.specs.declared.call.Call.{Call}
 use Rattle.seq_objects.specs.declared.reply.Reply.{Reply}
 use Rattle.seq_objects.specs.Objects.{Objects, opening, after, reply_to}
-use Rattle.seq_objects.specs.Batches.{ObjectKind, Counter, Stack, Tree, Queue, kind_of, same_kind, calls_of}
+use Rattle.seq_objects.specs.Batches.{Kind, Counter, Stack, Tree, Queue, kind_of, same_kind, calls_of}
 
 -- the objects after the calls
 abbrev pub after_all : Objects → List Call → Objects
@@ -32,21 +32,21 @@ abbrev pub of_bag : List ℕ → Objects
 of_bag items = record opening { bag = items }
 
 -- one of the objects alone; the others are as at the opening
-abbrev pub alone : ObjectKind → Objects → Objects
+abbrev pub alone : Kind → Objects → Objects
 alone Counter objects = of_counter objects.counter
 alone Stack objects = of_stack objects.stack
 alone Tree objects = of_set objects.set
 alone Queue objects = of_bag objects.bag
 
 -- `objects` with this one object replaced by that of `others`
-abbrev pub with_kind : ObjectKind → Objects → Objects → Objects
+abbrev pub with_kind : Kind → Objects → Objects → Objects
 with_kind Counter objects others = record objects { counter = others.counter }
 with_kind Stack objects others = record objects { stack = others.stack }
 with_kind Tree objects others = record objects { set = others.set }
 with_kind Queue objects others = record objects { bag = others.bag }
 
 -- the replies at the indices of the calls of one kind
-abbrev pub replies_of : ObjectKind → List Call → List Reply → List Reply
+abbrev pub replies_of : Kind → List Call → List Reply → List Reply
 replies_of kind [] replies = []
 replies_of kind (call ∷ calls) [] = []
 replies_of kind (call ∷ calls) (reply ∷ replies) =

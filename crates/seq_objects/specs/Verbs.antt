@@ -1,8 +1,8 @@
 -- The table of verbs: for each verb the kind of its objects, its word, and whether an argument follows. Kinds and words
 -- have a text each, by which jobs and reports write them.
-use Rattle.std.specs.Prelude.{ℕ, Bool, true, false, ◌&&◌, nat_le, List, [], ◌∷◌, codes}
+use Rattle.std.specs.Prelude.{ℕ, Bool, true, false, ◌&&◌, List, [], ◌∷◌, codes}
 use Rattle.std.specs.declared.option.Option.{Option}
-use Rattle.std.specs.List.{find, list_all}
+use Rattle.std.specs.List.{find}
 use Rattle.std.specs.Str.{bytes_eq}
 use Rattle.seq_objects.specs.declared.verb.Verb.{Verb}
 use Rattle.seq_objects.specs.declared.verb.Verb.TheVariants as verb
@@ -62,11 +62,6 @@ word_text word.Remove = codes "remove"
 word_text word.Find = codes "find"
 word_text word.Next = codes "next"
 word_text word.Take = codes "take"
-
--- at least one byte, and each `a` to `z`
-abbrev pub is_word : List ℕ → Bool
-is_word [] = false
-is_word (byte ∷ text) = list_all (λ letter. nat_le 97 letter && nat_le letter 122) (byte ∷ text)
 
 -- whether two kinds are the same
 abbrev pub same_kind : Kind → Kind → Bool

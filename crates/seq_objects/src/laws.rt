@@ -1,16 +1,17 @@
 //! The laws of the serial objects, each stated as the contract of an empty function.
-ghost use Rattle.std.specs.List.{AllByRecursion};
+ghost use Rattle.std.specs.Char.{is_ascii_lowercase};
+ghost use Rattle.std.specs.List.{AllByRecursion, list_all};
 ghost use Rattle.std.specs.Prelude.{[], ◌≡◌, ◌↔◌, ℕ, ◌+◌, ◌<◌, Bool, if◌then◌else◌, IsTrue, not, ◌&&◌, ◌||◌, ◌==◌, ◌++◌, nat_lt, filter, length, List, Some};
 ghost use Rattle.seq_objects.specs.declared.call.Call.{Call};
 ghost use Rattle.seq_objects.specs.declared.op.Op.{Op};
 ghost use Rattle.seq_objects.specs.declared.reply.Reply.{Reply};
 ghost use Rattle.seq_objects.specs.declared.verb.Verb.{Verb};
 ghost use Rattle.seq_objects.specs.declared.verb.VerbWord.{VerbWord};
-ghost use Rattle.seq_objects.specs.Verbs.{Kind, is_word, kind_by_text, kind_of_verb, kind_text, takes_argument, verb_by, word_by_text, word_of_verb, word_text};
+ghost use Rattle.seq_objects.specs.Verbs.{Kind, kind_by_text, kind_of_verb, kind_text, takes_argument, verb_by, word_by_text, word_of_verb, word_text};
 ghost use Rattle.seq_objects.specs.Parts.{argument_of, op_of, verb_of};
 ghost use Rattle.seq_objects.specs.Objects.{Objects, opening, after, has, with_key, without_key, least_above, with_item, least, without_least, number_of};
 ghost use Rattle.seq_objects.specs.BatchOrder.{class_of};
-ghost use Rattle.seq_objects.specs.Batches.{ObjectKind, AreInBatchOrder, AreOneBatch, AreOf, calls_of, calls_at};
+ghost use Rattle.seq_objects.specs.Batches.{AreInBatchOrder, AreOneBatch, AreOf, calls_of, calls_at};
 ghost use Rattle.seq_objects.specs.Stores.{Store, opening_store, store_after_all, store_replies, replies_at};
 ghost use Rattle.seq_objects.specs.Serial.{after_all, replies_to_all, alone, with_kind, replies_of, after_by_kind};
 ghost use Rattle.seq_objects.specs.Orders.{StrictlyAscends, Ascends, AreInOrder, IsLeastAbove, copies, one_if, IsLeast};
@@ -40,10 +41,10 @@ pub fn verbs_are_by_kind_and_word()
 pub fn texts_are_of_one()
     ensures kind { (kind : Kind) → kind_by_text (kind_text kind) ≡ Some kind }
     ensures kind_has { (text : List ℕ) (kind : Kind) → kind_by_text text ≡ Some kind → kind_text kind ≡ text }
-    ensures kind_letters { (kind : Kind) → IsTrue (is_word (kind_text kind)) }
+    ensures kind_letters { (kind : Kind) → (0 < length (kind_text kind)) × IsTrue (list_all is_ascii_lowercase (kind_text kind)) }
     ensures word { (word : VerbWord) → word_by_text (word_text word) ≡ Some word }
     ensures word_has { (text : List ℕ) (word : VerbWord) → word_by_text text ≡ Some word → word_text word ≡ text }
-    ensures word_letters { (word : VerbWord) → IsTrue (is_word (word_text word)) }
+    ensures word_letters { (word : VerbWord) → (0 < length (word_text word)) × IsTrue (list_all is_ascii_lowercase (word_text word)) }
 {}
 
 /// Every operation keeps the set strictly ascending and the bag ascending.
@@ -76,22 +77,22 @@ pub fn lower_classes_come_first()
 /// `calls_at` those of a number.
 pub fn some_calls_of_a_batch_are_a_batch()
     ensures batch { (passes : Call → Bool) (calls : List Call) → AreOneBatch calls → 0 < length (filter passes calls) → AreOneBatch (filter passes calls) }
-    ensures of { (kind : ObjectKind) (calls : List Call) → AreOf kind (calls_of kind calls) }
+    ensures of { (kind : Kind) (calls : List Call) → AreOf kind (calls_of kind calls) }
     ensures at { (number : ℕ) (calls : List Call) → AllByRecursion (λ call. number_of call.op ≡ number) (calls_at number calls) }
 {}
 
 /// Among the objects of one number, calls of one kind leave the other objects unchanged, and their replies do not
 /// depend on these.
 pub fn kinds_are_apart()
-    ensures replies { (kind : ObjectKind) (objects : Objects) (calls : List Call) → AreOf kind calls → replies_to_all objects calls ≡ replies_to_all (alone kind objects) calls }
-    ensures content { (kind : ObjectKind) (objects : Objects) (calls : List Call) → AreOf kind calls → after_all objects calls ≡ with_kind kind objects (after_all (alone kind objects) calls) }
+    ensures replies { (kind : Kind) (objects : Objects) (calls : List Call) → AreOf kind calls → replies_to_all objects calls ≡ replies_to_all (alone kind objects) calls }
+    ensures content { (kind : Kind) (objects : Objects) (calls : List Call) → AreOf kind calls → after_all objects calls ≡ with_kind kind objects (after_all (alone kind objects) calls) }
 {}
 
 /// Calls of one number can be split by kind, and each kind can serve its own calls alone. The replies to all calls are
 /// the only list that has each kind's replies at the places of its calls.
 pub fn each_kind_serves_its_own_calls()
-    ensures replies { (kind : ObjectKind) (objects : Objects) (calls : List Call) → replies_of kind calls (replies_to_all objects calls) ≡ replies_to_all (alone kind objects) (calls_of kind calls) }
-    ensures one { (calls : List Call) (replies others : List Reply) → length replies ≡ length calls → length others ≡ length calls → ((kind : ObjectKind) → replies_of kind calls replies ≡ replies_of kind calls others) → replies ≡ others }
+    ensures replies { (kind : Kind) (objects : Objects) (calls : List Call) → replies_of kind calls (replies_to_all objects calls) ≡ replies_to_all (alone kind objects) (calls_of kind calls) }
+    ensures one { (calls : List Call) (replies others : List Reply) → length replies ≡ length calls → length others ≡ length calls → ((kind : Kind) → replies_of kind calls replies ≡ replies_of kind calls others) → replies ≡ others }
     ensures content { (objects : Objects) (calls : List Call) → after_all objects calls ≡ after_by_kind objects calls }
 {}
 

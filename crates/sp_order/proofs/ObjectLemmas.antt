@@ -4,14 +4,14 @@ use Rattle.std.specs.List.{AllByRecursion}
 use Rattle.std.proofs.lemmas.Bool.{cases_order}
 use Rattle.std.proofs.lemmas.List.{length-replicate}
 use Rattle.seq_objects.specs.declared.op.Op.{Op}
-use Rattle.seq_objects.specs.declared.op.Op.TheVariants.{CounterAdd, Push, Pop, TreeInsert, TreeRemove, TreeFind, TreeNext, PqInsert, PqTake}
 use Rattle.seq_objects.specs.declared.act.Act.{Act}
 use Rattle.seq_objects.specs.declared.act.Act.TheVariants.{Work, Call}
-use Rattle.seq_objects.specs.Objects.{number_of, argument_of}
+use Rattle.seq_objects.specs.Objects.{number_of}
+use Rattle.seq_objects.proofs.Parts.{number_changed, number_leaves_argument, number_leaves_taking}
 use Rattle.sp_order.specs.Objects.{number_in, numbered, with_number, with_numbers, AreByFirstUse, AreNamed, AreUnnamed, AreNumbered, IsFirstUsed}
 use Rattle.sp_order.specs.Jobs.{JobValue, IsJob}
 use Rattle.sp_order.specs.Precedence.{Tree}
-use Rattle.sp_order.specs.Sources.{has_argument, AreSources, IsSource}
+use Rattle.sp_order.specs.Sources.{AreSources, IsSource}
 use Rattle.std.proofs.Common.{Option}
 
 abbrev numbers_of : List Act → List ℕ
@@ -81,37 +81,7 @@ each_used (act ∷ acts) used count number (inr h) above most =
 
 -- given numbers
 pub number_given : (op : Op) (number : ℕ) → number_of (with_number op number) ≡ number
-number_given (CounterAdd _ addend) number = refl
-number_given (Push _ item) number = refl
-number_given (Pop _) number = refl
-number_given (TreeInsert _ key) number = refl
-number_given (TreeRemove _ key) number = refl
-number_given (TreeFind _ key) number = refl
-number_given (TreeNext _ key) number = refl
-number_given (PqInsert _ item) number = refl
-number_given (PqTake _) number = refl
-
-takes_argument : (op : Op) (number : ℕ) → has_argument (with_number op number) ≡ has_argument op
-takes_argument (CounterAdd _ addend) number = refl
-takes_argument (Push _ item) number = refl
-takes_argument (Pop _) number = refl
-takes_argument (TreeInsert _ key) number = refl
-takes_argument (TreeRemove _ key) number = refl
-takes_argument (TreeFind _ key) number = refl
-takes_argument (TreeNext _ key) number = refl
-takes_argument (PqInsert _ item) number = refl
-takes_argument (PqTake _) number = refl
-
-same_argument : (op : Op) (number : ℕ) → argument_of (with_number op number) ≡ argument_of op
-same_argument (CounterAdd _ addend) number = refl
-same_argument (Push _ item) number = refl
-same_argument (Pop _) number = refl
-same_argument (TreeInsert _ key) number = refl
-same_argument (TreeRemove _ key) number = refl
-same_argument (TreeFind _ key) number = refl
-same_argument (TreeNext _ key) number = refl
-same_argument (PqInsert _ item) number = refl
-same_argument (PqTake _) number = refl
+number_given op number = number_changed op number
 
 pub same_length : (acts : List Act) (numbers : List ℕ) → length (with_numbers acts numbers) ≡ length acts
 same_length [] numbers = refl
@@ -149,8 +119,8 @@ source_stays shape acts numbers leaf source as_many is =
     record {
       op = with_number is.op given.0;
       call = given.1;
-      argument = takes_argument is.op given.0 ∙ is.argument;
-      stands_as_zero = same_argument is.op given.0 ∙ is.stands_as_zero;
+      argument = number_leaves_taking is.op given.0 ∙ is.argument;
+      stands_as_zero = number_leaves_argument is.op given.0 ∙ is.stands_as_zero;
       calls = (with_number is.calls.0 called.0, called.1);
       before = is.before;
     }

@@ -1,6 +1,7 @@
 -- Jobs, as contracts see them: a shape, for each of its leaves an act, and a source or none, and the names of objects.
 use Rattle.std.specs.Prelude.{◌≡◌, ℕ, ◌≤◌, List, length, None, Option, Some, refl}
 use Rattle.std.specs.Coded.{Coded, code_by, coded×, coded_list, coded_option, coded_ℕ}
+use Rattle.limits.specs.declared.TheConstants.{MOST_LEAVES}
 use Rattle.seq_objects.specs.declared.act.Act.{Act}
 use Rattle.seq_objects.specs.contracts.act.Act as act
 use Rattle.sp_order.specs.Precedence.{Tree, leaf, leaf_count}
@@ -25,10 +26,10 @@ tree_or_leaf (Some tree) = tree
 abbrev pub job_tree : JobValue → Tree
 job_tree job = tree_or_leaf job.shape
 
--- there is one act for each leaf, at most 20,000, each source is one that its leaf may have, and the objects are named
+-- there is one act for each leaf, at most `MOST_LEAVES`, each source is one that its leaf may have, and the objects are named
 pub record IsJob (job : JobValue) : Type 0 where
   pub leaves : leaf_count job.shape ≡ length job.acts
-  pub most : length job.acts ≤ 20000
+  pub most : length job.acts ≤ MOST_LEAVES
   pub sources : AreSources job.shape job.acts job.sources
   pub objects : AreNamed job.acts job.names
 

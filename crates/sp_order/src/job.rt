@@ -1,6 +1,7 @@
 //! Jobs: a shape, for each of its leaves an act, and a source or none, and the names of objects.
 ghost use Rattle.std.specs.Prelude.{◌≡◌, ◌<◌, ◌≤◌, [], None, Some, IfOk, length, map, replicate, slice_get};
 ghost use Rattle.std.specs.Option.{option_map};
+ghost use Rattle.limits.specs.declared.TheConstants.{MOST_LEAVES};
 ghost use Rattle.job_names.specs.Names.{spelling};
 ghost use Rattle.sp_order.specs.Objects.{AreNumbered, AreUnnamed, with_numbers as numbered_acts};
 ghost use Rattle.sp_order.specs.Precedence.{tree_of, leaf_count};
@@ -14,9 +15,9 @@ use seq_objects::Act;
 use std::alloc::{AllocError, Global};
 use std::marker::Model;
 
-/// A shape, and the acts and sources of its leaves, from left to right: at most 20,000. A leaf with a source calls with
-/// the reply of that leaf, which is before it, as its argument. The objects of its calls with the numbers 1, 2, and so
-/// on have the names, in this order. A job without leaves has no shape. Contracts see it as a `JobValue`.
+/// A shape, and the acts and sources of its leaves, from left to right: at most `MOST_LEAVES`. A leaf with a source
+/// calls with the reply of that leaf, which is before it, as its argument. The objects of its calls with the numbers 1,
+/// 2, and so on have the names, in this order. A job without leaves has no shape. Contracts see it as a `JobValue`.
 #[derive(Drop)]
 pub struct Job {
     shape: Option<Shape>,
@@ -49,7 +50,7 @@ impl Job {
     /// memory.
     pub fn of(shape: Option<Shape>, acts: Vec<Act>) -> Job
         requires leaves { leaf_count (option_map tree_of shape) ≡ length acts.items }
-        requires most { length acts.items ≤ 20000 }
+        requires most { length acts.items ≤ MOST_LEAVES }
         requires unnamed { AreUnnamed acts.items }
         ensures shape { result.shape ≡ option_map tree_of shape }
         ensures acts { result.acts ≡ acts.items }
@@ -69,7 +70,7 @@ impl Job {
     /// memory.
     pub fn with_sources(shape: Option<Shape>, acts: Vec<Act>, sources: Vec<Option<u32>>) -> Job
         requires leaves { leaf_count (option_map tree_of shape) ≡ length acts.items }
-        requires most { length acts.items ≤ 20000 }
+        requires most { length acts.items ≤ MOST_LEAVES }
         requires sources { AreSources (option_map tree_of shape) acts.items sources.items }
         requires unnamed { AreUnnamed acts.items }
         ensures shape { result.shape ≡ option_map tree_of shape }
@@ -111,7 +112,7 @@ impl Job {
         self.shape.as_ref()
     }
 
-    /// The acts of the leaves, from left to right: at most 20,000.
+    /// The acts of the leaves, from left to right: at most `MOST_LEAVES`.
     pub fn acts(&self) -> &[Act]
         ensures acts { result.now ≡ self.now.acts }
         ensures job { IsJob self.now }
@@ -146,7 +147,7 @@ impl Job {
     /// recursion takes one call a level, and there are fewer levels than leaves.
     pub fn depth(&self) -> u32
         ensures depth { result ≡ depth_of self.now.shape }
-        ensures most { result < 20000 }
+        ensures most { result < MOST_LEAVES }
     {
         match &self.shape {
             None => 0,

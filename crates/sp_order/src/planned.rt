@@ -90,7 +90,7 @@ impl PlannedJob {
         self.plan.node_of(leaf)
     }
 
-    /// The acts of the leaves, from left to right: at most 20,000.
+    /// The acts of the leaves, from left to right: at most `MOST_LEAVES`.
     pub fn acts(&self) -> &[Act]
         ensures acts { result.now ≡ self.now.acts }
         ensures job { IsJob self.now }

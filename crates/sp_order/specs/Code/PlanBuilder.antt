@@ -1,6 +1,7 @@
 -- How a plan is built: node by node in preorder, with a stack of the sides still to be visited.
 use Rattle.std.specs.Prelude.{◌≡◌, ℕ, ◌+◌, ◌<◌, ◌≤◌, List, [], ◌∷◌, ◌++◌, length, slice_set}
 use Rattle.std.specs.List.{All}
+use Rattle.limits.specs.declared.TheConstants.{MOST_LEAVES}
 use Rattle.sp_order.specs.declared.node.Kind.{Kind}
 use Rattle.sp_order.specs.declared.node.Kind.TheVariants.{SeqNode, ParNode}
 use Rattle.sp_order.specs.declared.node.Move.{Move}
@@ -64,7 +65,7 @@ with_all (pending ∷ above) lists = with_pending pending (with_all above lists)
 abbrev pub HaveParents : List Pending → Lists → Type 0
 HaveParents stack lists = All (λ pending. HasParentBelow (length lists.kinds) pending.after) stack
 
--- the lists are complete for this tree, which has at most 20,000 leaves
+-- the lists are complete for this tree, which has at most `MOST_LEAVES` leaves
 pub record AreListsOf (lists : Lists) (tree : Tree) : Type 0 where
   pub lists_are : lists ≡ lists_of tree
-  pub most : leaves tree ≤ 20000
+  pub most : leaves tree ≤ MOST_LEAVES

@@ -6,7 +6,7 @@ use Rattle.seq_objects.specs.Objects.{argument_of, value_of}
 use Rattle.seq_objects.specs.declared.act.Act.{Act}
 use Rattle.seq_objects.specs.declared.act.Act.TheVariants.{Work, Call}
 use Rattle.seq_objects.specs.declared.op.Op.{Op}
-use Rattle.seq_objects.specs.declared.op.Op.TheVariants.{CounterAdd, Push, Pop, TreeInsert, TreeRemove, TreeFind, TreeNext, PqInsert, PqTake}
+use Rattle.seq_objects.specs.declared.op.Op.TheVariants.{CounterAdd}
 use Rattle.sp_order.specs.Jobs.{JobValue}
 use Rattle.sp_order.specs.Objects.{number_in, AreUnnamed}
 use Rattle.sp_order.specs.Phases.{HasNoSources}
@@ -82,14 +82,7 @@ called_as job book leaf op is =
 -- an argument that is the low bits of a value has 32 bits
 pub narrow : (op : Op) (value : ℕ) → argument_of (with_value op value) < 2 ^ 32
 narrow (CounterAdd number _) value = omega arith
-narrow (Push number _) value = omega arith
-narrow (Pop number) value = omega arith
-narrow (TreeInsert number _) value = omega arith
-narrow (TreeRemove number _) value = omega arith
-narrow (TreeFind number _) value = omega arith
-narrow (TreeNext number _) value = omega arith
-narrow (PqInsert number _) value = omega arith
-narrow (PqTake number) value = omega arith
+narrow _ value = omega arith
 
 -- with a first place there is an operation as before
 with_kept : (given : Option Op) (p q : Option Place) (op : Op) → op_with given p ≡ Some op → op_with given (or_else p q) ≡ Some op

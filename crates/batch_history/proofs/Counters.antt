@@ -2,21 +2,14 @@
 use Rattle.std.proofs.Common.{◌≡◌, ℕ, ◌+◌, ◌<◌, ◌≤◌, ◌^◌, ◌==◌, Bool, true, false, if◌then◌else◌, refl, arith}
 use Rattle.std.proofs.lemmas.Bool.Decides.{nat_tests}
 use Rattle.seq_objects.specs.declared.op.Op.{Op}
-use Rattle.seq_objects.specs.declared.op.Op.TheVariants.{CounterAdd, Push, Pop, TreeInsert, TreeRemove, TreeFind, TreeNext, PqInsert, PqTake}
+use Rattle.seq_objects.specs.declared.op.Op.TheVariants.{CounterAdd}
 use Rattle.seq_objects.specs.Objects.{Objects, after, number_of}
 use Rattle.seq_objects.specs.Stores.{Store, store_after}
 use Rattle.sp_order.specs.Totals.{added}
 
 own : (objects : Objects) (op : Op) → added op < 2 ^ 32 → (after objects op).counter ≤ objects.counter + 2 ^ 32
 own objects (CounterAdd number addend) less = omega (arith, less)
-own objects (Push number item) less = omega arith
-own objects (Pop number) less = omega arith
-own objects (TreeInsert number key) less = omega arith
-own objects (TreeRemove number key) less = omega arith
-own objects (TreeFind number key) less = omega arith
-own objects (TreeNext number key) less = omega arith
-own objects (PqInsert number item) less = omega arith
-own objects (PqTake number) less = omega arith
+own objects _ less = omega arith
 
 -- each counter grows by at most 2^32
 pub grown : (store : Store) (op : Op) → added op < 2 ^ 32 → (number : ℕ) → (store_after store op number).counter ≤ (store number).counter + 2 ^ 32

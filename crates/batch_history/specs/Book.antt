@@ -1,6 +1,7 @@
 -- A book is a list of batches, and a batch is a list of entries. Batches, and places in a batch, are numbered from 0.
 use Rattle.std.specs.Prelude.{◌≡◌, ◌≢◌, ◌<◌, ◌^◌, List, [], ◌∷◌, ◌++◌, map}
 use Rattle.std.specs.List.{AllByRecursion}
+use Rattle.limits.specs.declared.TheConstants.{MOST_WORKERS}
 use Rattle.seq_objects.specs.Stores.{Store, opening_store, store_after, store_reply}
 use Rattle.seq_objects.specs.BatchOrder.{ComesFirst}
 use Rattle.seq_objects.specs.Pairs.{AllPairsByRecursion, AreDistinct}
@@ -26,10 +27,10 @@ pub record IsBatch (batch : List Entry) : Type 0 where
   pub order : AllPairsByRecursion (λ first second. ComesFirst first.op first.worker second.op second.worker) batch
   pub workers : AreDistinct (map (λ entry. entry.worker) batch)
 
--- the invariant of a `History`: legal batches, workers below 32, distinct leaves, and leaves below 2^32
+-- the invariant of a `History`: legal batches, workers below `MOST_WORKERS`, distinct leaves, and leaves below 2^32
 pub record IsHistory (book : List (List Entry)) : Type 0 where
   pub legal : IsLegal book
   pub batches : AllByRecursion IsBatch book
-  pub workers : AllByRecursion (λ entry. entry.worker < 32) (flat book)
+  pub workers : AllByRecursion (λ entry. entry.worker < MOST_WORKERS) (flat book)
   pub leaves : AreDistinct (map (λ entry. entry.leaf) (flat book))
   pub numbers : AllByRecursion (λ leaf. leaf < 2 ^ 32) (map (λ entry. entry.leaf) (flat book))

@@ -6,6 +6,7 @@
 //! object has a name. `FillsFirst` includes both; the bound of the replies holds with sources and names too.
 ghost use Rattle.std.specs.Prelude.{◌≡◌, ◌≢◌, ℕ, ◌-◌, ◌≤◌, ◌<◌, ◌^◌, ◌↔◌, true, List, [], ◌∷◌, ◌++◌, length, None, Option, Some, Contains};
 ghost use Rattle.std.specs.List.{AllByRecursion};
+ghost use Rattle.limits.specs.declared.TheConstants.{MOST_LEAVES};
 ghost use Rattle.seq_objects.specs.Objects.{has, argument_of, value_of};
 ghost use Rattle.seq_objects.specs.Stores.{opening_store};
 ghost use Rattle.seq_objects.specs.Orders.{StrictlyAscends};
@@ -118,8 +119,8 @@ pub fn tally_is_the_jobs()
 {}
 
 /// Under `FillsFirst`, every lawful report has the summary of the job. The code can make it if the pushed items sum to
-/// less than 2^64, and likewise the items inserted into the queue. At most 20,000 acts with arguments below 2^32
-/// suffice for that.
+/// less than 2^64, and likewise the items inserted into the queue. At most `MOST_LEAVES` acts with arguments below
+/// 2^32 suffice for that.
 pub fn summary_is_the_jobs()
     ensures lines { (job : JobValue) (workers : ℕ) (report : Report) (seed size : ℕ)
         → FillsFirst job → Lawful job workers report
@@ -129,7 +130,7 @@ pub fn summary_is_the_jobs()
         → total pushed job.acts < 2 ^ 64 → total queue_inserted job.acts < 2 ^ 64
         → CanBeSummed job report }
     ensures small { (job : JobValue) (workers : ℕ) (report : Report)
-        → FillsFirst job → Lawful job workers report → length job.acts ≤ 20000
+        → FillsFirst job → Lawful job workers report → length job.acts ≤ MOST_LEAVES
         → AllByRecursion (λ act. count_of_act argument_of act < 2 ^ 32) job.acts
         → CanBeSummed job report }
 {}

@@ -94,9 +94,9 @@ impl Tally {
             Op::Pop(_) => self.popped += number(entry.reply),
             Op::TreeInsert(..) => self.keys += count_yes(entry.reply),
             Op::TreeFind(..) => self.found += count_yes(entry.reply),
-            Op::TreeRemove(..) | Op::TreeNext(..) => {}
             Op::PqInsert(..) => self.inserted += 1,
             Op::PqTake(_) => self.taken += number(entry.reply),
+            _ => {}
         }
     }
 }

@@ -1,7 +1,7 @@
 -- The tally of a history fits 64 bits if its two reply sums do.
 use Rattle.std.proofs.Common.{ℕ, ◌<◌, ◌≤◌, ◌^◌, List, [], ◌∷◌, length, arith}
 use Rattle.seq_objects.specs.declared.op.Op.{Op}
-use Rattle.seq_objects.specs.declared.op.Op.TheVariants.{CounterAdd, Push, Pop, TreeInsert, TreeRemove, TreeFind, TreeNext, PqInsert, PqTake}
+use Rattle.seq_objects.specs.declared.op.Op.TheVariants.{CounterAdd, TreeInsert, TreeFind}
 use Rattle.seq_objects.specs.declared.reply.Reply.{Reply}
 use Rattle.seq_objects.specs.declared.reply.Reply.TheVariants as reply
 use Rattle.sp_order.specs.Totals.{pushes, queue_inserts, total}
@@ -22,25 +22,11 @@ few_replies count one (e ∷ entries) = omega (arith, one e.op e.reply, few_repl
 
 one_push : (op : Op) → pushes op ≤ 1
 one_push (CounterAdd number addend) = omega arith
-one_push (Push number item) = omega arith
-one_push (Pop number) = omega arith
-one_push (TreeInsert number key) = omega arith
-one_push (TreeRemove number key) = omega arith
-one_push (TreeFind number key) = omega arith
-one_push (TreeNext number key) = omega arith
-one_push (PqInsert number item) = omega arith
-one_push (PqTake number) = omega arith
+one_push _ = omega arith
 
 one_insert : (op : Op) → queue_inserts op ≤ 1
 one_insert (CounterAdd number addend) = omega arith
-one_insert (Push number item) = omega arith
-one_insert (Pop number) = omega arith
-one_insert (TreeInsert number key) = omega arith
-one_insert (TreeRemove number key) = omega arith
-one_insert (TreeFind number key) = omega arith
-one_insert (TreeNext number key) = omega arith
-one_insert (PqInsert number item) = omega arith
-one_insert (PqTake number) = omega arith
+one_insert _ = omega arith
 
 one_yes : (r : Reply) → yes_of r ≤ 1
 one_yes (reply.Number number) = omega arith
@@ -50,26 +36,12 @@ one_yes reply.Yes = omega arith
 one_yes reply.No = omega arith
 
 one_key : (op : Op) (r : Reply) → new_keys op r ≤ 1
-one_key (CounterAdd number addend) r = omega arith
-one_key (Push number item) r = omega arith
-one_key (Pop number) r = omega arith
 one_key (TreeInsert number key) r = one_yes r
-one_key (TreeRemove number key) r = omega arith
-one_key (TreeFind number key) r = omega arith
-one_key (TreeNext number key) r = omega arith
-one_key (PqInsert number item) r = omega arith
-one_key (PqTake number) r = omega arith
+one_key _ r = omega arith
 
 one_find : (op : Op) (r : Reply) → keys_found op r ≤ 1
-one_find (CounterAdd number addend) r = omega arith
-one_find (Push number item) r = omega arith
-one_find (Pop number) r = omega arith
-one_find (TreeInsert number key) r = omega arith
-one_find (TreeRemove number key) r = omega arith
 one_find (TreeFind number key) r = one_yes r
-one_find (TreeNext number key) r = omega arith
-one_find (PqInsert number item) r = omega arith
-one_find (PqTake number) r = omega arith
+one_find _ r = omega arith
 
 pub tally_fits : (book : List (List Entry)) → IsHistory book → (tally_of (flat book)).popped < 2 ^ 64 → (tally_of (flat book)).taken < 2 ^ 64
     → Fits (tally_of (flat book))

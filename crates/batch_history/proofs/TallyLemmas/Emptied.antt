@@ -2,7 +2,7 @@
 use Rattle.std.proofs.Common.{◌≡◌, ℕ, ◌+◌, ◌-◌, ◌≤◌, List, [], ◌∷◌, length, refl, ap, ◌∙◌, arith, length-append}
 use Rattle.std.specs.List.{AllByRecursion}
 use Rattle.seq_objects.specs.declared.op.Op.{Op}
-use Rattle.seq_objects.specs.declared.op.Op.TheVariants.{CounterAdd, Push, Pop, TreeInsert, TreeRemove, TreeFind, TreeNext, PqInsert, PqTake}
+use Rattle.seq_objects.specs.declared.op.Op.TheVariants.{CounterAdd, Push, Pop, PqInsert, PqTake}
 use Rattle.seq_objects.specs.Objects.{Objects, opening, after, reply_to}
 use Rattle.seq_objects.specs.Stores.{opening_store}
 use Rattle.sp_order.specs.Objects.{AreUnnamed}
@@ -29,14 +29,7 @@ none_later early late op (e ∷ entries) apart counts =
 -- the counter: the last add replies the sum of all
 sum_step : (o : Objects) (op : Op) → (sum_after o.counter op (reply_to o op) ≡ (after o op).counter) × ((after o op).counter ≡ o.counter + added op)
 sum_step o (CounterAdd number addend) = (refl, refl)
-sum_step o (Push number item) = (refl, omega arith)
-sum_step o (Pop number) = (refl, omega arith)
-sum_step o (TreeInsert number key) = (refl, omega arith)
-sum_step o (TreeRemove number key) = (refl, omega arith)
-sum_step o (TreeFind number key) = (refl, omega arith)
-sum_step o (TreeNext number key) = (refl, omega arith)
-sum_step o (PqInsert number item) = (refl, omega arith)
-sum_step o (PqTake number) = (refl, omega arith)
+sum_step o _ = (refl, omega arith)
 
 last_alone : (o : Objects) (entries : List Entry) → IsLegalAlone o entries → last_sum o.counter entries ≡ o.counter + total added (acts_in entries)
 last_alone o [] legal = omega arith
@@ -50,15 +43,9 @@ last_is entries unnamed legal = omega (arith, last_alone opening entries (legal_
 
 -- the stack: what is pushed is popped or left
 pop_step : (o : Objects) (op : Op) → popped op (reply_to o op) + sum_of (after o op).stack ≡ sum_of o.stack + pushed op
-pop_step o (CounterAdd number addend) = omega arith
 pop_step o (Push number item) = omega (arith, sum_push o.stack item)
 pop_step o (Pop number) = omega (arith, top_sum o.stack)
-pop_step o (TreeInsert number key) = omega arith
-pop_step o (TreeRemove number key) = omega arith
-pop_step o (TreeFind number key) = omega arith
-pop_step o (TreeNext number key) = omega arith
-pop_step o (PqInsert number item) = omega arith
-pop_step o (PqTake number) = omega arith
+pop_step o _ = omega arith
 
 popped_is : (o : Objects) (entries : List Entry) → IsLegalAlone o entries
     → over_replies popped entries + sum_of (served_alone o entries).stack ≡ sum_of o.stack + total pushed (acts_in entries)
@@ -68,15 +55,9 @@ popped_is o (e ∷ entries) legal =
     omega (arith, pop_step o e.op, same, popped_is (after o e.op) entries legal.1)
 
 height_step : (o : Objects) (op : Op) → length (after o op).stack ≡ length o.stack + pushes op - pops op
-height_step o (CounterAdd number addend) = omega arith
 height_step o (Push number item) = omega (arith, length-append o.stack (item ∷ []))
 height_step o (Pop number) = omega (arith, top_length o.stack)
-height_step o (TreeInsert number key) = omega arith
-height_step o (TreeRemove number key) = omega arith
-height_step o (TreeFind number key) = omega arith
-height_step o (TreeNext number key) = omega arith
-height_step o (PqInsert number item) = omega arith
-height_step o (PqTake number) = omega arith
+height_step o _ = omega arith
 
 -- truncated differences add up if the growing all comes before the shrinking
 levels : (len in1 out1 in2 out2 : ℕ) → (1 ≤ out1 → in2 ≡ 0) → len + in1 - out1 + in2 - out2 ≡ len + (in1 + in2) - (out1 + out2)
@@ -112,15 +93,9 @@ pops_all entries unnamed legal apart enough =
 
 -- the queue
 take_step : (o : Objects) (op : Op) → queue_taken op (reply_to o op) + sum_of (after o op).bag ≡ sum_of o.bag + queue_inserted op
-take_step o (CounterAdd number addend) = omega arith
-take_step o (Push number item) = omega arith
-take_step o (Pop number) = omega arith
-take_step o (TreeInsert number key) = omega arith
-take_step o (TreeRemove number key) = omega arith
-take_step o (TreeFind number key) = omega arith
-take_step o (TreeNext number key) = omega arith
 take_step o (PqInsert number item) = omega (arith, with_sum item o.bag)
 take_step o (PqTake number) = omega (arith, least_sum o.bag)
+take_step o _ = omega arith
 
 taken_is : (o : Objects) (entries : List Entry) → IsLegalAlone o entries
     → over_replies queue_taken entries + sum_of (served_alone o entries).bag ≡ sum_of o.bag + total queue_inserted (acts_in entries)
@@ -130,15 +105,9 @@ taken_is o (e ∷ entries) legal =
     omega (arith, take_step o e.op, same, taken_is (after o e.op) entries legal.1)
 
 size_step : (o : Objects) (op : Op) → length (after o op).bag ≡ length o.bag + queue_inserts op - queue_takes op
-size_step o (CounterAdd number addend) = omega arith
-size_step o (Push number item) = omega arith
-size_step o (Pop number) = omega arith
-size_step o (TreeInsert number key) = omega arith
-size_step o (TreeRemove number key) = omega arith
-size_step o (TreeFind number key) = omega arith
-size_step o (TreeNext number key) = omega arith
 size_step o (PqInsert number item) = omega (arith, with_length item o.bag)
 size_step o (PqTake number) = omega (arith, least_length o.bag)
+size_step o _ = omega arith
 
 size : (o : Objects) (entries : List Entry) → StandsBefore queue_inserts queue_takes entries
     → length (served_alone o entries).bag ≡ length o.bag + total queue_inserts (acts_in entries) - total queue_takes (acts_in entries)

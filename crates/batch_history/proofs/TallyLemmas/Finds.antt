@@ -7,7 +7,7 @@ use Rattle.key_sets.proofs.KeyLemmas.Ascending.{all_above}
 use Rattle.key_sets.proofs.KeyLemmas.Beside.{has_none}
 use Rattle.key_sets.proofs.KeyLemmas.Members.{same_set}
 use Rattle.seq_objects.specs.declared.op.Op.{Op}
-use Rattle.seq_objects.specs.declared.op.Op.TheVariants.{CounterAdd, Push, Pop, TreeInsert, TreeRemove, TreeFind, TreeNext, PqInsert, PqTake}
+use Rattle.seq_objects.specs.declared.op.Op.TheVariants.{TreeInsert, TreeRemove, TreeFind}
 use Rattle.seq_objects.specs.declared.act.Act.TheVariants.{Call}
 use Rattle.seq_objects.specs.Objects.{Objects, opening, after, reply_to, has, with_key, yes_or_no}
 use Rattle.seq_objects.specs.Orders.{StrictlyAscends, one_if}
@@ -38,26 +38,12 @@ grows key (k ∷ set) up =
 
 -- the tree's set, when nothing is removed
 set_step : (o : Objects) (op : Op) → tree_removes op ≡ 0 → (after o op).set ≡ with_key_of (Call op) o.set
-set_step o (CounterAdd number addend) kept = refl
-set_step o (Push number item) kept = refl
-set_step o (Pop number) kept = refl
-set_step o (TreeInsert number key) kept = refl
 set_step o (TreeRemove number key) kept = absurd (omega (arith, kept))
-set_step o (TreeFind number key) kept = refl
-set_step o (TreeNext number key) kept = refl
-set_step o (PqInsert number item) kept = refl
-set_step o (PqTake number) kept = refl
+set_step o _ kept = refl
 
 keys_step : (o : Objects) (op : Op) → StrictlyAscends o.set → new_keys op (reply_to o op) + length o.set ≡ length (with_key_of (Call op) o.set)
-keys_step o (CounterAdd number addend) up = omega arith
-keys_step o (Push number item) up = omega arith
-keys_step o (Pop number) up = omega arith
 keys_step o (TreeInsert number key) up = omega (arith, grows key o.set up, yes_one (not (has key o.set)))
-keys_step o (TreeRemove number key) up = omega arith
-keys_step o (TreeFind number key) up = omega arith
-keys_step o (TreeNext number key) up = omega arith
-keys_step o (PqInsert number item) up = omega arith
-keys_step o (PqTake number) up = omega arith
+keys_step o _ up = omega arith
 
 -- the keys of a set and of inserts, taken one entry at a time
 or_sum : (b : Bool) (m n : ℕ) → ((b || nat_lt 0 m) || nat_lt 0 n) ≡ (b || nat_lt 0 (m + n))
@@ -105,15 +91,9 @@ keys_are entries unnamed legal kept =
 
 -- if nothing is inserted later, the set stays
 stays_step : (o : Objects) (op : Op) → tree_inserts op ≡ 0 → tree_removes op ≡ 0 → (after o op).set ≡ o.set
-stays_step o (CounterAdd number addend) none kept = refl
-stays_step o (Push number item) none kept = refl
-stays_step o (Pop number) none kept = refl
 stays_step o (TreeInsert number key) none kept = absurd (omega (arith, none))
 stays_step o (TreeRemove number key) none kept = absurd (omega (arith, kept))
-stays_step o (TreeFind number key) none kept = refl
-stays_step o (TreeNext number key) none kept = refl
-stays_step o (PqInsert number item) none kept = refl
-stays_step o (PqTake number) none kept = refl
+stays_step o _ none kept = refl
 
 stays : (o : Objects) (entries : List Entry) → total tree_inserts (acts_in entries) ≡ 0 → total tree_removes (acts_in entries) ≡ 0
     → (served_alone o entries).set ≡ o.set
@@ -146,15 +126,8 @@ finds_say entries unnamed legal kept apart =
 
 -- so the yes replies number the finds of inserted keys
 found_step : (set : List ℕ) (op : Op) (e : Entry) → e.op ≡ op → FindsIn set e → keys_found op e.reply ≡ finds_in set op
-found_step set (CounterAdd number addend) e is says = refl
-found_step set (Push number item) e is says = refl
-found_step set (Pop number) e is says = refl
-found_step set (TreeInsert number key) e is says = refl
-found_step set (TreeRemove number key) e is says = refl
 found_step set (TreeFind number key) e is says = ap yes_of (says number key is) ∙ yes_one (has key set)
-found_step set (TreeNext number key) e is says = refl
-found_step set (PqInsert number item) e is says = refl
-found_step set (PqTake number) e is says = refl
+found_step set _ e is says = refl
 
 pub found_are : (set : List ℕ) (entries : List Entry) → AllByRecursion (FindsIn set) entries → over_replies keys_found entries ≡ total (finds_in set) (acts_in entries)
 found_are set [] say = refl

@@ -3,7 +3,7 @@ use Rattle.std.proofs.Common.{◌≡◌, ℕ, ◌+◌, ◌*◌, ◌-◌, ◌<◌
 use Rattle.std.specs.Prelude.{slice_get, Some}
 use Rattle.std.specs.List.{AllByRecursion}
 use Rattle.seq_objects.specs.declared.op.Op.{Op}
-use Rattle.seq_objects.specs.declared.op.Op.TheVariants.{CounterAdd, Push, Pop, TreeInsert, TreeRemove, TreeFind, TreeNext, PqInsert, PqTake}
+use Rattle.seq_objects.specs.declared.op.Op.TheVariants.{CounterAdd}
 use Rattle.seq_objects.specs.declared.act.Act.{Act}
 use Rattle.seq_objects.specs.declared.act.Act.TheVariants.{Work, Call}
 use Rattle.seq_objects.specs.Objects.{argument_of}
@@ -38,25 +38,11 @@ count_is (e ∷ entries) = omega (arith, count_is entries)
 -- the item that an operation adds is its argument
 pushed_at_most : (op : Op) → pushed op ≤ argument_of op
 pushed_at_most (CounterAdd number addend) = omega arith
-pushed_at_most (Push number item) = omega arith
-pushed_at_most (Pop number) = omega arith
-pushed_at_most (TreeInsert number key) = omega arith
-pushed_at_most (TreeRemove number key) = omega arith
-pushed_at_most (TreeFind number key) = omega arith
-pushed_at_most (TreeNext number key) = omega arith
-pushed_at_most (PqInsert number item) = omega arith
-pushed_at_most (PqTake number) = omega arith
+pushed_at_most _ = omega arith
 
 inserted_at_most : (op : Op) → queue_inserted op ≤ argument_of op
 inserted_at_most (CounterAdd number addend) = omega arith
-inserted_at_most (Push number item) = omega arith
-inserted_at_most (Pop number) = omega arith
-inserted_at_most (TreeInsert number key) = omega arith
-inserted_at_most (TreeRemove number key) = omega arith
-inserted_at_most (TreeFind number key) = omega arith
-inserted_at_most (TreeNext number key) = omega arith
-inserted_at_most (PqInsert number item) = omega arith
-inserted_at_most (PqTake number) = omega arith
+inserted_at_most _ = omega arith
 
 -- small arguments have small sums
 small_sum : (count : Op → ℕ) → ((op : Op) → count op ≤ argument_of op) → (acts : List Act)

@@ -6,7 +6,7 @@ use Rattle.std.proofs.lemmas.List.Elements.{Contains-append_right}
 use Rattle.key_sets.proofs.KeyLemmas.Ascending.{ascends_with}
 use Rattle.key_sets.proofs.KeyLemmas.Members.{has_with, same_set}
 use Rattle.seq_objects.specs.declared.op.Op.{Op}
-use Rattle.seq_objects.specs.declared.op.Op.TheVariants.{CounterAdd, Push, Pop, TreeInsert, TreeRemove, TreeFind, TreeNext, PqInsert, PqTake}
+use Rattle.seq_objects.specs.declared.op.Op.TheVariants.{TreeInsert}
 use Rattle.seq_objects.specs.declared.act.Act.{Act}
 use Rattle.seq_objects.specs.declared.act.Act.TheVariants.{Work, Call}
 use Rattle.seq_objects.specs.Objects.{has}
@@ -30,26 +30,12 @@ or_one false false = refl
 
 -- a set with the key of an operation
 pub ascends_step : (op : Op) (set : List ℕ) → StrictlyAscends set → StrictlyAscends (with_key_of (Call op) set)
-ascends_step (CounterAdd number addend) set up = up
-ascends_step (Push number item) set up = up
-ascends_step (Pop number) set up = up
 ascends_step (TreeInsert number key) set up = ascends_with key set up
-ascends_step (TreeRemove number key) set up = up
-ascends_step (TreeFind number key) set up = up
-ascends_step (TreeNext number key) set up = up
-ascends_step (PqInsert number item) set up = up
-ascends_step (PqTake number) set up = up
+ascends_step _ set up = up
 
 pub has_step : (q : ℕ) (op : Op) (set : List ℕ) → has q (with_key_of (Call op) set) ≡ (has q set || nat_lt 0 (inserts_key q op))
-has_step q (CounterAdd number addend) set = or_none (has q set)
-has_step q (Push number item) set = or_none (has q set)
-has_step q (Pop number) set = or_none (has q set)
 has_step q (TreeInsert number key) set = has_with key q set ∙ or_one (has q set) (q == key)
-has_step q (TreeRemove number key) set = or_none (has q set)
-has_step q (TreeFind number key) set = or_none (has q set)
-has_step q (TreeNext number key) set = or_none (has q set)
-has_step q (PqInsert number item) set = or_none (has q set)
-has_step q (PqTake number) set = or_none (has q set)
+has_step q _ set = or_none (has q set)
 
 -- the keys that are inserted
 pub inserted_ascend : (acts : List Act) → StrictlyAscends (keys_inserted acts)
@@ -81,18 +67,11 @@ same_keys acts others same = same_set (keys_inserted acts) (keys_inserted others
 -- they are those of the acts that insert one
 is_here : (q : ℕ) (act : Act) → 1 ≤ count_of_act (inserts_key q) act → (number : ℕ) × (act ≡ Call (TreeInsert number q))
 is_here q (Work steps) counts = absurd (omega (arith, counts))
-is_here q (Call (CounterAdd number addend)) counts = absurd (omega (arith, counts))
-is_here q (Call (Push number item)) counts = absurd (omega (arith, counts))
-is_here q (Call (Pop number)) counts = absurd (omega (arith, counts))
 is_here q (Call (TreeInsert number key)) counts = (number, step (q == key) refl counts) where
   step : (b : Bool) → (q == key) ≡ b → 1 ≤ one_if b → Call (TreeInsert number key) ≡ Call (TreeInsert number q)
   step true is some = let same : key ≡ q = grind (arith, nat_tests) in ap (λ k. Call (TreeInsert number k)) same
   step false is some = absurd (omega (arith, some))
-is_here q (Call (TreeRemove number key)) counts = absurd (omega (arith, counts))
-is_here q (Call (TreeFind number key)) counts = absurd (omega (arith, counts))
-is_here q (Call (TreeNext number key)) counts = absurd (omega (arith, counts))
-is_here q (Call (PqInsert number item)) counts = absurd (omega (arith, counts))
-is_here q (Call (PqTake number)) counts = absurd (omega (arith, counts))
+is_here q (Call _) counts = absurd (omega (arith, counts))
 
 none_or_some : (n : ℕ) → (n ≡ 0) ⊎ (1 ≤ n)
 none_or_some zero = inl refl

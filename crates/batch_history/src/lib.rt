@@ -20,7 +20,7 @@ mod words;
 
 pub use batch::{Batch, Entry};
 pub use history::History;
-pub use place::{Place, place_of};
+pub use place::{Place, place_in, place_of};
 pub use report::Report;
 pub use report_text::text;
 pub use reserved::ReservedHistory;

@@ -15,7 +15,7 @@ pub struct Place {
 }
 
 /// The place of a leaf's first entry in one batch, found by a linear scan. `batch` is the batch's number.
-fn place_in(batch: u32, entries: &[Entry], leaf: u32) -> Option<Place>
+pub fn place_in(batch: u32, entries: &[Entry], leaf: u32) -> Option<Place>
     requires few { length entries.now < 2 ^ 32 }
     ensures { result ≡ first_in batch 0 entries.now leaf }
 {

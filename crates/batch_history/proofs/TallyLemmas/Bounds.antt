@@ -30,10 +30,7 @@ one_insert _ = omega arith
 
 one_yes : (r : Reply) → yes_of r ≤ 1
 one_yes (reply.Number number) = omega arith
-one_yes reply.Unit = omega arith
-one_yes reply.Empty = omega arith
-one_yes reply.Yes = omega arith
-one_yes reply.No = omega arith
+one_yes _ = omega arith
 
 one_key : (op : Op) (r : Reply) → new_keys op r ≤ 1
 one_key (TreeInsert number key) r = one_yes r

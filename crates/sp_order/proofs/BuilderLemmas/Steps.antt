@@ -63,16 +63,13 @@ with_par kinds moves leaf_nodes n after a b size =
     (moved moves after _ _) (append_assoc leaf_nodes _ _))
 
 length-with_side : (kinds : List Kind) (after : Move) (node : ℕ) → length (with_side kinds after node) ≡ length kinds
-length-with_side kinds Root node = refl
-length-with_side kinds (OpenSecond p) node = refl
 length-with_side kinds (FinishParent p) node = length-set kinds p (SeqNode (p + 1) node)
 length-with_side kinds (Arrive p) node = length-set kinds p (ParNode (p + 1) node)
+length-with_side kinds _ node = refl
 
 below_more : (low high : ℕ) (after : Move) → low ≤ high → HasParentBelow low after → HasParentBelow high after
 below_more low high Root le below = tt
-below_more low high (OpenSecond p) le below = omega arith
-below_more low high (FinishParent p) le below = omega arith
-below_more low high (Arrive p) le below = omega arith
+below_more low high _ le below = omega arith
 
 -- the parents of all sides on the stack are listed, where the two sides of the last node are pushed
 parents_more : (stack : List Pending) (left right : Pending) (low high : ℕ) → low ≤ high → All (λ p. HasParentBelow low p.after) stack → HasParentBelow high left.after → HasParentBelow high right.after

@@ -24,7 +24,6 @@ pub record SeriesAt (plan : Nodes) (p l r most : ℕ) : Type 0 where
   pub ends : r + node_count right ≤ most
 
 top_series : (plan : Nodes) (tree : Tree) (p u most : ℕ) (m : Move) → OccursAt plan tree p u m → p + node_count tree ≤ most → (l r : ℕ) → plan.kind p ≡ Some (SeqNode l r) → SeriesAt plan p l r most
-top_series plan leaf p u most m h ends l r series = let e = h.0 in cc
 top_series plan (seq a b) p u most m h ends l r series =
     let e = h.0 in
     let f : l ≡ p + 1 = cc in
@@ -39,7 +38,7 @@ top_series plan (seq a b) p u most m h ends l r series =
       stands_right = h.3;
       ends = omega arith;
     })
-top_series plan (par a b) p u most m h ends l r series = let e = h.0 in cc
+top_series plan _ p u most m h ends l r series = let e = h.0 in cc
 
 pub series_at : (plan : Nodes) (tree : Tree) (n u : ℕ) (m : Move) → OccursAt plan tree n u m → (p l r : ℕ) → n ≤ p → p < n + node_count tree → plan.kind p ≡ Some (SeqNode l r) → SeriesAt plan p l r (n + node_count tree)
 series_at plan tree n u m h p l r low high series =

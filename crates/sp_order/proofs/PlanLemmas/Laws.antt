@@ -82,8 +82,7 @@ plan_laws plan tree h = record {
 -- a tree that occurs at node 0 has a root
 has_top : (plan : Nodes) (tree : Tree) → OccursAt plan tree 0 0 Root → plan.kind 0 ≢ None
 has_top plan leaf h none = let e = h.0 in cc
-has_top plan (seq a b) h none = let e = h.0 in cc
-has_top plan (par a b) h none = let e = h.0 in cc
+has_top plan _ h none = let e = h.0 in cc
 
 -- and so does a plan that stands for a tree
 pub has_root : (plan : Nodes) (tree : Tree) → IsPlanOf plan tree → plan.kind 0 ≢ None

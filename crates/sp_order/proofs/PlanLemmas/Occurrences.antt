@@ -9,13 +9,11 @@ use Rattle.sp_order.specs.PlanOf.{OccursAt, node_count}
 
 pub node_count_above_0 : (tree : Tree) → 0 < node_count tree
 node_count_above_0 leaf = omega arith
-node_count_above_0 (seq a b) = omega arith
-node_count_above_0 (par a b) = omega arith
+node_count_above_0 _ = omega arith
 
 pub top_after : (plan : Nodes) (tree : Tree) (n u : ℕ) (m : Move) → OccursAt plan tree n u m → plan.after n ≡ m
 top_after plan leaf n u m h = h.1
-top_after plan (seq a b) n u m h = h.1
-top_after plan (par a b) n u m h = h.1
+top_after plan _ n u m h = h.1
 
 -- a node of a block is its top, or in its left side, or in its right side
 pub node_cases : (n a b k : ℕ) → n ≤ k → k < n + (a + b + 1) → (k ≡ n) ⊎ (((n + 1 ≤ k) × (k < n + 1 + a)) ⊎ ((n + 1 + a ≤ k) × (k < n + 1 + a + b)))
@@ -30,8 +28,7 @@ pub record StandsAt (plan : Nodes) (k most : ℕ) : Type 0 where
 
 with_after : (plan : Nodes) (tree : Tree) (n u : ℕ) (m : Move) → OccursAt plan tree n u m → OccursAt plan tree n u (plan.after n)
 with_after plan leaf n u m h = (h.0, refl, h.2)
-with_after plan (seq a b) n u m h = (h.0, refl, h.2, h.3)
-with_after plan (par a b) n u m h = (h.0, refl, h.2, h.3)
+with_after plan _ n u m h = (h.0, refl, h.2, h.3)
 
 within_more : (plan : Nodes) (k most more : ℕ) → most ≤ more → StandsAt plan k most → StandsAt plan k more
 within_more plan k most more le h = record { tree = h.tree; first = h.first; stands = h.stands; ends = omega (arith, h.ends) }

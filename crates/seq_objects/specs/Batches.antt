@@ -14,7 +14,8 @@ pub use Rattle.seq_objects.specs.Parts.{kind_of}
 abbrev pub AreInBatchOrder : List Call → Type 0
 AreInBatchOrder calls = AllPairsByRecursion (λ first second. ComesFirst first.op first.worker second.op second.worker) calls
 
--- the calls form a batch: there is at least one, they are in batch order, and their workers are distinct and of a run's
+-- the calls form a batch: there is at least one, they are in batch order, and their workers are distinct and below
+-- `MOST_WORKERS`
 pub record AreOneBatch (calls : List Call) : Type 0 where
   pub some : 0 < length calls
   pub order : AreInBatchOrder calls

@@ -2,5 +2,4 @@ pub mod Chunks
 pub mod Fewer
 pub mod KindWords
 pub mod Numbers
-pub mod Quoted
 pub mod Skips

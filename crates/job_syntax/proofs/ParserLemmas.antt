@@ -13,6 +13,7 @@ pub mod ReadingLaws
 pub mod Runs
 pub mod Seen
 pub mod Shown
+pub mod Plain
 pub mod ShownSteps
 pub mod Uses
 pub mod Visible

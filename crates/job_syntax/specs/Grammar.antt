@@ -4,39 +4,30 @@
 --   job      = items
 --   items    = nothing | item items
 --   item     = "work" argument | call | "let" name "=" call | block
---   call     = counter "add" value
---            | stack "push" value | stack "pop"
---            | tree "insert" value | tree "remove" value | tree "find" value | tree "next" value
---            | queue "insert" value | queue "take"
+--   call     = object verb value | object verb
 --   block    = "seq" "{" items "}" | "par" "{" items "}"
 --            | "for" number "{" items "}" | "pfor" number "{" items "}"
 --   argument = number, or inside a loop a number that depends on the copy
 --   value    = argument | name
 --
--- `counter` stands for the word "counter", or for "counter:" and the name of one counter in the same token; `stack`,
--- `tree` and `queue` likewise.
-use Rattle.std.specs.Prelude.{◌≡◌, ℕ, List, [], ◌∷◌, ◌++◌, map, Bool, true, false, ◌||◌, Option, IsTrue}
+-- `object` stands for the word of a kind, as "counter", or for that word, a colon and the name of one object of the kind
+-- in the same token. `verb` stands for the word of a verb of that kind, as "add"; a value follows where the verb takes
+-- one. Which kinds and verbs there are is said by the table of verbs.
+use Rattle.std.specs.Prelude.{◌≡◌, ℕ, List, [], ◌∷◌, ◌++◌, map, Bool, true, false, ◌||◌, Option, Some, None, IsTrue}
+use Rattle.std.specs.Option.{option_to_list}
+use Rattle.seq_objects.specs.declared.verb.Verb.{Verb}
+use Rattle.seq_objects.specs.Verbs.{kind_of_verb, word_of_verb, takes_argument}
 use Rattle.job_names.specs.declared.name.Name.{Name}
 use Rattle.job_syntax.specs.declared.lexer.word.Word.{Word}
-use Rattle.job_syntax.specs.declared.lexer.word.Word.TheVariants.{Open, Close, Work, Counter, Stack, Tree, Queue, Add, Push, Pop, Insert, Remove, Find, Next, Take, Seq, Par, For, Pfor, Let, Equals, Number, Copies, Named}
+use Rattle.job_syntax.specs.declared.lexer.word.Word.TheVariants.{Open, Close, Work, Seq, Par, For, Pfor, Let, Equals, Number, Copies, Named}
+use Rattle.job_syntax.specs.declared.lexer.word.Word.TheVariants as word
 use Rattle.job_syntax.specs.Words.{word_of}
 
--- an operation with an argument; a call has the name of its object, if the object has one
-pub data UnaryOp : Type 0 where
-  work : UnaryOp
-  counter_add : (object : Option Name) → UnaryOp
-  stack_push : (object : Option Name) → UnaryOp
-  tree_insert : (object : Option Name) → UnaryOp
-  tree_remove : (object : Option Name) → UnaryOp
-  tree_find : (object : Option Name) → UnaryOp
-  tree_next : (object : Option Name) → UnaryOp
-  queue_insert : (object : Option Name) → UnaryOp
-
--- an operation, with its argument if it takes one; or a call with a name for its reply
+-- a piece of work; a call by its verb, with the name of its object, if the object has one, and with its argument, if it
+-- has one; or a call with a name for its reply
 pub data Leaf : Type 0 where
-  with_argument : UnaryOp → (argument : Word) → Leaf
-  stack_pop : (object : Option Name) → Leaf
-  queue_take : (object : Option Name) → Leaf
+  work : (argument : Word) → Leaf
+  call : Verb → (object : Option Name) → (argument : Option Word) → Leaf
   bound : Name → (call : Leaf) → Leaf
 
 -- the head of a block: its word, and for a loop the number of copies
@@ -53,21 +44,11 @@ pub data Items : Type 0 where
   block_then : BlockKind → (body : Items) → (more : Items) → Items
 
 -- the words that each rule writes
-abbrev pub unary_op_words : UnaryOp → List Word
-unary_op_words work = Work ∷ []
-unary_op_words (counter_add object) = Counter object ∷ Add ∷ []
-unary_op_words (stack_push object) = Stack object ∷ Push ∷ []
-unary_op_words (tree_insert object) = Tree object ∷ Insert ∷ []
-unary_op_words (tree_remove object) = Tree object ∷ Remove ∷ []
-unary_op_words (tree_find object) = Tree object ∷ Find ∷ []
-unary_op_words (tree_next object) = Tree object ∷ Next ∷ []
-unary_op_words (queue_insert object) = Queue object ∷ Insert ∷ []
-
 abbrev pub leaf_words : Leaf → List Word
-leaf_words (with_argument op argument) = unary_op_words op ++ argument ∷ []
-leaf_words (stack_pop object) = Stack object ∷ Pop ∷ []
-leaf_words (queue_take object) = Queue object ∷ Take ∷ []
-leaf_words (bound name call) = Let ∷ Named name ∷ Equals ∷ leaf_words call
+leaf_words (work argument) = Work ∷ argument ∷ []
+leaf_words (call verb object argument) =
+    word.Object (kind_of_verb verb) object ∷ word.Verb (word_of_verb verb) ∷ option_to_list argument
+leaf_words (bound name leaf) = Let ∷ Named name ∷ Equals ∷ leaf_words leaf
 
 abbrev pub kind_words : BlockKind → List Word
 kind_words seq_block = Seq ∷ []
@@ -95,11 +76,6 @@ abbrev pub is_call_argument : Bool → Word → Bool
 is_call_argument looped (Named name) = true
 is_call_argument looped word = is_argument looped word
 
--- whether an operation takes a word as its argument
-abbrev pub takes : UnaryOp → Bool → Word → Bool
-takes work looped word = is_argument looped word
-takes _ looped word = is_call_argument looped word
-
 abbrev pub is_loop : BlockKind → Bool
 is_loop seq_block = false
 is_loop par_block = false
@@ -112,19 +88,22 @@ is_par par_block = true
 is_par (for_loop copies) = false
 is_par (pfor_loop copies) = false
 
--- an operation that calls an object, with its argument if it takes one
+-- a call has an argument exactly where its verb takes one, which the second flag says
+abbrev pub FitsVerb : Bool → Bool → Option Word → Type 0
+FitsVerb looped true (Some argument) = IsTrue (is_call_argument looped argument)
+FitsVerb looped false None = Unit {0}
+FitsVerb looped _ _ = ⊥
+
+-- a call of an object
 abbrev pub IsCall : Bool → Leaf → Type 0
-IsCall looped (with_argument work argument) = ⊥
-IsCall looped (with_argument op argument) = IsTrue (is_call_argument looped argument)
-IsCall looped (stack_pop object) = Unit {0}
-IsCall looped (queue_take object) = Unit {0}
-IsCall looped (bound name call) = ⊥
+IsCall looped (work argument) = ⊥
+IsCall looped (call verb object argument) = FitsVerb looped (takes_argument verb) argument
+IsCall looped (bound name leaf) = ⊥
 
 abbrev pub IsLeaf : Bool → Leaf → Type 0
-IsLeaf looped (with_argument op argument) = IsTrue (takes op looped argument)
-IsLeaf looped (stack_pop object) = Unit {0}
-IsLeaf looped (queue_take object) = Unit {0}
-IsLeaf looped (bound name call) = IsCall looped call
+IsLeaf looped (work argument) = IsTrue (is_argument looped argument)
+IsLeaf looped (call verb object argument) = FitsVerb looped (takes_argument verb) argument
+IsLeaf looped (bound name leaf) = IsCall looped leaf
 
 abbrev pub IsBlockKind : BlockKind → Type 0
 IsBlockKind seq_block = Unit {0}

@@ -1,11 +1,9 @@
 -- The view of the code's items, as derivations of the grammar.
-use Rattle.std.specs.Prelude.{List, [], ◌∷◌, Some, map}
+use Rattle.std.specs.Prelude.{List, [], ◌∷◌, Some, map, option_map}
 use Rattle.job_syntax.specs.declared.lexer.word.Word.{Word}
 use Rattle.job_syntax.specs.declared.lexer.word.Word.TheVariants.{Number, Copies, Named}
 use Rattle.job_syntax.specs.declared.item.Argument.{Argument}
 use Rattle.job_syntax.specs.declared.item.Argument.TheVariants as argument
-use Rattle.job_syntax.specs.declared.item.UnaryOp.{UnaryOp}
-use Rattle.job_syntax.specs.declared.item.UnaryOp.TheVariants as op
 use Rattle.job_syntax.specs.declared.item.Leaf.{Leaf}
 use Rattle.job_syntax.specs.declared.item.Leaf.TheVariants as leaf
 use Rattle.job_syntax.specs.declared.item.BlockKind.{BlockKind}
@@ -20,20 +18,9 @@ argument_word (argument.Number number) = Number (Some number)
 argument_word (argument.Copies factor addend) = Copies (Some (factor, addend))
 argument_word (argument.Reply name) = Named name
 
-abbrev pub unary_op_of : UnaryOp → grammar.UnaryOp
-unary_op_of op.Work = grammar.work
-unary_op_of (op.CounterAdd object) = grammar.counter_add object
-unary_op_of (op.StackPush object) = grammar.stack_push object
-unary_op_of (op.TreeInsert object) = grammar.tree_insert object
-unary_op_of (op.TreeRemove object) = grammar.tree_remove object
-unary_op_of (op.TreeFind object) = grammar.tree_find object
-unary_op_of (op.TreeNext object) = grammar.tree_next object
-unary_op_of (op.QueueInsert object) = grammar.queue_insert object
-
 abbrev pub leaf_of : Leaf → grammar.Leaf
-leaf_of (leaf.WithArgument op argument) = grammar.with_argument (unary_op_of op) (argument_word argument)
-leaf_of (leaf.StackPop object) = grammar.stack_pop object
-leaf_of (leaf.QueueTake object) = grammar.queue_take object
+leaf_of (leaf.Work argument) = grammar.work (argument_word argument)
+leaf_of (leaf.Call verb object argument) = grammar.call verb object (option_map argument_word argument)
 
 abbrev pub block_kind_of : BlockKind → grammar.BlockKind
 block_kind_of kind.Seq = grammar.seq_block

@@ -1,12 +1,15 @@
 -- Which word each token spells.
-use Rattle.std.specs.Prelude.{◌≡◌, ℕ, ◌+◌, ◌-◌, ◌*◌, ◌^◌, List, [], ◌∷◌, ◌++◌, length, take, drop, map, Bool, false, ◌||◌, ◌&&◌, not, Option, Some, None, if◌then◌else◌, ◌==◌, nat_le, nat_lt, codes, IsTrue}
+use Rattle.std.specs.Prelude.{◌≡◌, ℕ, ◌+◌, ◌-◌, ◌*◌, ◌^◌, List, [], ◌∷◌, ◌++◌, length, take, drop, map, Bool, false, ◌||◌, ◌&&◌, not, Option, Some, None, option_map, unwrap_or, if◌then◌else◌, ◌==◌, nat_le, nat_lt, codes, IsTrue}
+use Rattle.std.specs.Option.{option_or}
 use Rattle.std.specs.Str.{bytes_eq}
 use Rattle.std.specs.List.{list_all}
 use Rattle.job_names.specs.declared.name.Name.{Name}
 use Rattle.job_names.specs.Names.{is_spelled, name_of}
+use Rattle.seq_objects.specs.declared.kind.Kind.{Kind}
+use Rattle.seq_objects.specs.Verbs.{kind_text, kind_by_text, word_by_text}
 use Rattle.job_syntax.specs.Text.{Token, tokens}
 use Rattle.job_syntax.specs.declared.lexer.word.Word.{Word}
-use Rattle.job_syntax.specs.declared.lexer.word.Word.TheVariants.{Open, Close, Work, Counter, Stack, Tree, Queue, Add, Push, Pop, Insert, Remove, Find, Next, Take, Seq, Par, For, Pfor, Let, Equals, Number, Copies, Named, Other}
+use Rattle.job_syntax.specs.declared.lexer.word.Word.TheVariants.{Open, Close, Work, Object, Verb, Seq, Par, For, Pfor, Let, Equals, Number, Copies, Named, Other}
 use Rattle.job_syntax.specs.declared.lexer.word.WordOnLine.{WordOnLine}
 
 -- `0` to `9`
@@ -52,14 +55,13 @@ copies_word text =
     then Copies (pair_of (number_of (before_first 43 text)) (number_of (behind_first 43 text)))
     else Other
 
--- the word of a kind of objects, with the name of one of them
+-- the word of a kind of objects, if the text was that of one, with the name of one of them
+abbrev pub kind_named : Option Kind → Name → Word
+kind_named (Some kind) name = Object kind (Some name)
+kind_named None name = Other
+
 abbrev pub kind_word : List ℕ → Name → Word
-kind_word text name =
-    if bytes_eq text (codes "counter") then Counter (Some name)
-    else if bytes_eq text (codes "stack") then Stack (Some name)
-    else if bytes_eq text (codes "tree") then Tree (Some name)
-    else if bytes_eq text (codes "queue") then Queue (Some name)
-    else Other
+kind_word text name = kind_named (kind_by_text text) name
 
 -- The word of a token with a colon: the bytes before the first `:` are a kind word, and those after it a name, which
 -- may be a word of the language.
@@ -77,34 +79,31 @@ argument_word text =
     else if is_spelled text then Named (name_of text)
     else object_word text
 
--- the quoted word that a text is, else the other word
-abbrev pub quoted_or : List ℕ → Word → Word
-quoted_or text other =
-    if bytes_eq text (codes "{") then Open
-    else if bytes_eq text (codes "}") then Close
-    else if bytes_eq text (codes "work") then Work
-    else if bytes_eq text (codes "counter") then Counter None
-    else if bytes_eq text (codes "stack") then Stack None
-    else if bytes_eq text (codes "tree") then Tree None
-    else if bytes_eq text (codes "queue") then Queue None
-    else if bytes_eq text (codes "add") then Add
-    else if bytes_eq text (codes "push") then Push
-    else if bytes_eq text (codes "pop") then Pop
-    else if bytes_eq text (codes "insert") then Insert
-    else if bytes_eq text (codes "remove") then Remove
-    else if bytes_eq text (codes "find") then Find
-    else if bytes_eq text (codes "next") then Next
-    else if bytes_eq text (codes "take") then Take
-    else if bytes_eq text (codes "seq") then Seq
-    else if bytes_eq text (codes "par") then Par
-    else if bytes_eq text (codes "for") then For
-    else if bytes_eq text (codes "pfor") then Pfor
-    else if bytes_eq text (codes "let") then Let
-    else if bytes_eq text (codes "=") then Equals
-    else other
+-- the word of the language that a text is, if it is one and no word of the table of verbs
+abbrev pub own_word : List ℕ → Option Word
+own_word text =
+    if bytes_eq text (codes "{") then Some Open
+    else if bytes_eq text (codes "}") then Some Close
+    else if bytes_eq text (codes "work") then Some Work
+    else if bytes_eq text (codes "seq") then Some Seq
+    else if bytes_eq text (codes "par") then Some Par
+    else if bytes_eq text (codes "for") then Some For
+    else if bytes_eq text (codes "pfor") then Some Pfor
+    else if bytes_eq text (codes "let") then Some Let
+    else if bytes_eq text (codes "=") then Some Equals
+    else None
+
+-- the word of a kind or of a verb that a text is, if it is one
+abbrev pub table_word : List ℕ → Option Word
+table_word text =
+    option_or (option_map (λ kind. Object kind None) (kind_by_text text)) (option_map (λ verb. Verb verb) (word_by_text text))
+
+-- the quoted word that a text is, if it is one
+abbrev pub quoted_word : List ℕ → Option Word
+quoted_word text = option_or (own_word text) (table_word text)
 
 abbrev pub word_of : List ℕ → Word
-word_of text = quoted_or text (argument_word text)
+word_of text = unwrap_or (quoted_word text) (argument_word text)
 
 -- the words of a text's tokens, each with its line
 abbrev pub word_on_line : Token → WordOnLine
@@ -113,8 +112,8 @@ word_on_line token = record { word = word_of token.text; line = token.line }
 abbrev pub words_on_lines : List ℕ → List WordOnLine
 words_on_lines text = map word_on_line (tokens text)
 
--- The tokens of this kind word, a colon and a name say the word with this name, and no others do.
-pub record IsKindWord (kind : List ℕ) (word : Option Name → Word) : Type 0 where
-  pub said : (name : List ℕ) → IsTrue (is_spelled name) → word_of (kind ++ 58 ∷ name) ≡ word (Some (name_of name))
-  pub alone : (text : List ℕ) (name : Name) → word_of text ≡ word (Some name)
-      → (spelled : List ℕ) × (text ≡ kind ++ 58 ∷ spelled) × IsTrue (is_spelled spelled) × (name ≡ name_of spelled)
+-- The tokens of this kind's word, a colon and a name say the kind with this name, and no others do.
+pub record IsKindWord (kind : Kind) : Type 0 where
+  pub said : (name : List ℕ) → IsTrue (is_spelled name) → word_of (kind_text kind ++ 58 ∷ name) ≡ Object kind (Some (name_of name))
+  pub alone : (text : List ℕ) (name : Name) → word_of text ≡ Object kind (Some name)
+      → (spelled : List ℕ) × (text ≡ kind_text kind ++ 58 ∷ spelled) × IsTrue (is_spelled spelled) × (name ≡ name_of spelled)

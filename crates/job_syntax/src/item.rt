@@ -1,6 +1,7 @@
 //! The items of a text, before its loops are expanded into copies.
 
 use job_names::{Kind, Name};
+use seq_objects::Verb;
 
 /// The argument of a leaf.
 #[derive(Clone, Copy)]
@@ -12,25 +13,16 @@ pub enum Argument {
     Reply(Name),
 }
 
-/// An operation with an argument. A call has the name of its object, if the object has one.
-#[derive(Clone, Copy)]
-pub enum UnaryOp {
-    Work,
-    CounterAdd(Option<Name>),
-    StackPush(Option<Name>),
-    TreeInsert(Option<Name>),
-    TreeRemove(Option<Name>),
-    TreeFind(Option<Name>),
-    TreeNext(Option<Name>),
-    QueueInsert(Option<Name>),
-}
-
-/// An operation, and its argument if it has one.
+/// A piece of work, or a call by its verb, with the name of its object, if the object has one, and with an argument
+/// where the verb takes one.
 #[derive(Clone, Copy)]
 pub enum Leaf {
-    WithArgument(UnaryOp, Argument),
-    StackPop(Option<Name>),
-    QueueTake(Option<Name>),
+    Work(Argument),
+    Call {
+        verb: Verb,
+        object: Option<Name>,
+        argument: Option<Argument>,
+    },
 }
 
 /// The head of a block: its word, and for a loop the number of copies.

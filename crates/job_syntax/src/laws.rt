@@ -1,12 +1,9 @@
 //! The law of names: which tokens name an object.
-ghost use Rattle.std.specs.Prelude.{codes};
-ghost use Rattle.job_syntax.specs.declared.lexer.word.Word.TheVariants.{Counter, Stack, Tree, Queue};
 ghost use Rattle.job_syntax.specs.Words.{IsKindWord};
 
-/// A token is a kind word with a name exactly where it is the kind word, a colon, and the name as it is spelled.
-pub fn kind_words_take_names()
-    ensures counter { IsKindWord (codes "counter") Counter }
-    ensures stack { IsKindWord (codes "stack") Stack }
-    ensures tree { IsKindWord (codes "tree") Tree }
-    ensures queue { IsKindWord (codes "queue") Queue }
+use seq_objects::Kind;
+
+/// A token is the word of a kind with a name exactly where it is the kind's word, a colon, and the name as it is spelled.
+pub fn kind_words_take_names(kind: Kind)
+    ensures { IsKindWord kind }
 {}

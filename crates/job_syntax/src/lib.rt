@@ -16,7 +16,7 @@ mod parser;
 
 pub use error::JobErr;
 pub use fault::JobFault;
-pub use item::{Argument, BlockKind, Item, Leaf, UnaryOp};
+pub use item::{Argument, BlockKind, Item, Leaf};
 pub use lexer::text::forbidden_line;
 pub use lexer::word::{Word, WordOnLine};
 pub use parser::cursor::Cursor;

@@ -16,11 +16,11 @@ pub(crate) mod cursor;
 
 use crate::error::JobErr;
 use crate::fault::JobFault;
-use crate::item::{BlockKind, Item, UnaryOp};
+use crate::item::{BlockKind, Item};
 use crate::lexer::text::last_line;
 use crate::lexer::word::{Word, WordOnLine};
 use crate::parser::blocks::BlockStack;
-use crate::parser::call::{Object, read_argument, read_call};
+use crate::parser::call::{Object, Operator, read_argument, read_call};
 use crate::parser::cursor::Cursor;
 use std::alloc::Global;
 
@@ -71,11 +71,8 @@ fn read_step(
     ensures shorter { length words.new ≤ length words.old }
 {
     match token.word {
-        Word::Work => read_argument(stack, None, UnaryOp::Work, words, last),
-        Word::Counter(name) => read_call(stack, None, Object::Counter(name), words, last),
-        Word::Stack(name) => read_call(stack, None, Object::Stack(name), words, last),
-        Word::Tree(name) => read_call(stack, None, Object::Tree(name), words, last),
-        Word::Queue(name) => read_call(stack, None, Object::Queue(name), words, last),
+        Word::Work => read_argument(stack, None, Operator::Work, words, last),
+        Word::Object(kind, name) => read_call(stack, None, Object { kind, name }, words, last),
         Word::Let => read_let(stack, words, last),
         Word::Close if stack.is_outside() => {
             Err(JobErr::Bad(JobFault::Grammar { line: token.line }))

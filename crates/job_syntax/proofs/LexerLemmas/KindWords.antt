@@ -1,89 +1,83 @@
--- The tokens that are a kind word with a name.
-use Rattle.std.proofs.Common.{◌≡◌, ℕ, List, [], ◌∷◌, ◌++◌, Bool, true, false, Option, Some, None, take, drop, codes, refl, sym, ap, ◌∙◌, eqb-true, true≢false}
-use Rattle.std.specs.Prelude.{◌&&◌, ◌==◌, if◌then◌else◌, IsTrue}
+-- The tokens that are the words of kinds and verbs, and the word of a kind with a name.
+use Rattle.std.proofs.Common.{◌≡◌, ℕ, List, [], ◌∷◌, ◌++◌, Bool, true, false, Option, Some, None, take, drop, codes, refl, sym, ap, ◌∙◌, eqb-true, true≢false, cond}
+use Rattle.std.specs.Prelude.{◌&&◌, ◌==◌, if◌then◌else◌, IsTrue, IfSome, option_map, unwrap_or}
+use Rattle.std.specs.Option.{option_or}
+use Rattle.std.specs.List.{find, list_all}
 use Rattle.std.specs.Str.{bytes_eq}
-use Rattle.std.proofs.lemmas.Slice.Eq.{bytes_eq-Decides}
 use Rattle.job_names.specs.declared.name.Name.{Name}
 use Rattle.job_names.specs.Names.{is_spelled, name_of}
+use Rattle.seq_objects.specs.declared.verb.VerbWord.{VerbWord}
+use Rattle.seq_objects.specs.declared.verb.Verb.{Verb as ObjectVerb}
+use Rattle.seq_objects.specs.declared.verb.Verb.TheVariants as verbs
+use Rattle.seq_objects.specs.declared.kind.Kind.{Kind}
+use Rattle.seq_objects.specs.declared.kind.Kind.TheVariants.{Counter, Stack, Tree, Queue}
+use Rattle.seq_objects.specs.Verbs.{kind_of_verb, kinds, verb_words, kind_text, word_text, kind_by_text, word_by_text}
 use Rattle.job_syntax.specs.declared.lexer.word.Word.{Word}
-use Rattle.job_syntax.specs.declared.lexer.word.Word.TheVariants.{Open, Close, Work, Counter, Stack, Tree, Queue, Add, Push, Pop, Insert, Remove, Find, Next, Take, Seq, Par, For, Pfor, Let, Equals, Number, Copies, Named, Other}
-use Rattle.job_syntax.proofs.LexerLemmas.Quoted.{and_false}
-use Rattle.job_syntax.specs.Words.{are_digits, number_of, before_first, behind_first, pair_of, copies_word, kind_word, object_word, argument_word, quoted_or, word_of, IsKindWord}
+use Rattle.job_syntax.specs.declared.lexer.word.Word.TheVariants.{Open, Close, Work, Object, Verb, Seq, Par, For, Pfor, Let, Equals, Number, Copies, Named, Other}
+use Rattle.job_syntax.specs.Words.{are_digits, number_of, before_first, behind_first, copies_word, kind_named, kind_word, object_word, argument_word, own_word, table_word, quoted_word, word_of, IsKindWord}
+use Rattle.seq_objects.proofs.Verbs.{kind_found, kind_has_text, word_found}
 
--- the kind and the name that a word has
-abbrev kind_in : Word → List ℕ
-kind_in (Counter named) = codes "counter"
-kind_in (Stack named) = codes "stack"
-kind_in (Tree named) = codes "tree"
-kind_in (Queue named) = codes "queue"
-kind_in _ = []
-
+-- the name that a word has
 abbrev name_in : Word → Option Name
-name_in (Counter named) = named
-name_in (Stack named) = named
-name_in (Tree named) = named
-name_in (Queue named) = named
+name_in (Object kind name) = name
 name_in _ = None
 
+-- no quoted word has a name
+abbrev Nameless : Option Word → Type 0
+Nameless found = IfSome found (λ word. name_in word ≡ None)
+
+chosen : (test : Bool) (word : Word) (others : Option Word) → name_in word ≡ None → Nameless others → Nameless (if test then Some word else others)
+chosen true word others none more = none
+chosen false word others none more = more
+
+own_nameless : (text : List ℕ) → Nameless (own_word text)
+own_nameless text =
+    chosen (bytes_eq text (codes "{")) Open _ refl
+    (chosen (bytes_eq text (codes "}")) Close _ refl
+    (chosen (bytes_eq text (codes "work")) Work _ refl
+    (chosen (bytes_eq text (codes "seq")) Seq _ refl
+    (chosen (bytes_eq text (codes "par")) Par _ refl
+    (chosen (bytes_eq text (codes "for")) For _ refl
+    (chosen (bytes_eq text (codes "pfor")) Pfor _ refl
+    (chosen (bytes_eq text (codes "let")) Let _ refl
+    (chosen (bytes_eq text (codes "=")) Equals None refl tt))))))))
+
+table_nameless : (kind : Option Kind) (verb : Option VerbWord) → Nameless (option_or (option_map (λ kind. Object kind None) kind) (option_map (λ verb. Verb verb) verb))
+table_nameless (Some kind) verb = refl
+table_nameless None (Some verb) = refl
+table_nameless None None = tt
+
+either_nameless : (first second : Option Word) → Nameless first → Nameless second → Nameless (option_or first second)
+either_nameless (Some word) second none more = none
+either_nameless None second none more = more
+
+behind_quoted : {kind : Kind} {name : Name} (found : Option Word) (other : Word) → Nameless found → unwrap_or found other ≡ Object kind (Some name) → other ≡ Object kind (Some name)
+behind_quoted (Some word) other none e = absurd (cc (e, none))
+behind_quoted None other none e = e
+
 -- a test that chooses a word without a name has failed
-passed : {target : Word} {name : Name} (test : Bool) (answer remaining : Word) → name_in answer ≡ None → name_in target ≡ Some name →
-    (if test then answer else remaining) ≡ target → remaining ≡ target
-passed true answer remaining none named e = absurd (cc (e, none, named))
-passed false answer remaining none named e = e
+passed : {kind : Kind} {name : Name} (test : Bool) (answer remaining : Word) → name_in answer ≡ None → (if test then answer else remaining) ≡ Object kind (Some name) → remaining ≡ Object kind (Some name)
+passed true answer remaining none e = absurd (cc (e, none))
+passed false answer remaining none e = e
 
-no_name : (test : Bool) (answer remaining : Word) → name_in answer ≡ None → name_in remaining ≡ None → name_in (if test then answer else remaining) ≡ None
-no_name true answer remaining none none_remaining = none
-no_name false answer remaining none none_remaining = none_remaining
+copies_no_name : (test : Bool) (by : Option (ℕ × ℕ)) → name_in (if test then Copies by else Other) ≡ None
+copies_no_name true by = refl
+copies_no_name false by = refl
 
-behind_quoted : {target : Word} {name : Name} (text : List ℕ) (remaining : Word) → name_in target ≡ Some name → quoted_or text remaining ≡ target → remaining ≡ target
-behind_quoted text remaining named e =
-    passed (bytes_eq text (codes "=")) Equals _ refl named
-    (passed (bytes_eq text (codes "let")) Let _ refl named
-    (passed (bytes_eq text (codes "pfor")) Pfor _ refl named
-    (passed (bytes_eq text (codes "for")) For _ refl named
-    (passed (bytes_eq text (codes "par")) Par _ refl named
-    (passed (bytes_eq text (codes "seq")) Seq _ refl named
-    (passed (bytes_eq text (codes "take")) Take _ refl named
-    (passed (bytes_eq text (codes "next")) Next _ refl named
-    (passed (bytes_eq text (codes "find")) Find _ refl named
-    (passed (bytes_eq text (codes "remove")) Remove _ refl named
-    (passed (bytes_eq text (codes "insert")) Insert _ refl named
-    (passed (bytes_eq text (codes "pop")) Pop _ refl named
-    (passed (bytes_eq text (codes "push")) Push _ refl named
-    (passed (bytes_eq text (codes "add")) Add _ refl named
-    (passed (bytes_eq text (codes "queue")) (Queue None) _ refl named
-    (passed (bytes_eq text (codes "tree")) (Tree None) _ refl named
-    (passed (bytes_eq text (codes "stack")) (Stack None) _ refl named
-    (passed (bytes_eq text (codes "counter")) (Counter None) _ refl named
-    (passed (bytes_eq text (codes "work")) Work _ refl named
-    (passed (bytes_eq text (codes "}")) Close _ refl named
-    (passed (bytes_eq text (codes "{")) Open _ refl named e))))))))))))))))))))
+behind_argument : {kind : Kind} {name : Name} (text : List ℕ) → argument_word text ≡ Object kind (Some name) → object_word text ≡ Object kind (Some name)
+behind_argument text e =
+    passed (is_spelled text) (Named (name_of text)) _ refl
+    (passed (bytes_eq (take 2 text) (codes "@*")) (copies_word (drop 2 text)) _ (copies_no_name _ _)
+    (passed (bytes_eq text (codes "@")) (Copies (Some (1, 0))) _ refl
+    (passed (are_digits text) (Number (number_of text)) _ refl e)))
 
-copies_no_name : (text : List ℕ) → name_in (copies_word text) ≡ None
-copies_no_name text =
-    no_name (are_digits (before_first 43 text) && are_digits (behind_first 43 text)) (Copies (pair_of (number_of (before_first 43 text)) (number_of (behind_first 43 text)))) Other refl refl
-
-behind_argument : {target : Word} {name : Name} (text : List ℕ) → name_in target ≡ Some name → argument_word text ≡ target → object_word text ≡ target
-behind_argument text named e =
-    passed (is_spelled text) (Named (name_of text)) _ refl named
-    (passed (bytes_eq (take 2 text) (codes "@*")) (copies_word (drop 2 text)) _ (copies_no_name (drop 2 text)) named
-    (passed (bytes_eq text (codes "@")) (Copies (Some (1, 0))) _ refl named
-    (passed (are_digits text) (Number (number_of text)) _ refl named e)))
-
--- the text before the colon is the word's kind, and the name is the word's
-made : {target : Word} {name : Name} (front : List ℕ) (given : Name) (a b c d : Bool) → name_in target ≡ Some name →
-    bytes_eq front (codes "counter") ≡ a → bytes_eq front (codes "stack") ≡ b → bytes_eq front (codes "tree") ≡ c → bytes_eq front (codes "queue") ≡ d →
-    kind_word front given ≡ target → (front ≡ kind_in target) × (Some given ≡ name_in target)
-made front given true b c d named ea eb ec ed e =
-    let says = rw ea at e in ((bytes_eq-Decides front (codes "counter")).0 ea ∙ ap kind_in says, ap name_in says)
-made front given false true c d named ea eb ec ed e =
-    let says = rw (ea, eb) at e in ((bytes_eq-Decides front (codes "stack")).0 eb ∙ ap kind_in says, ap name_in says)
-made front given false false true d named ea eb ec ed e =
-    let says = rw (ea, eb, ec) at e in ((bytes_eq-Decides front (codes "tree")).0 ec ∙ ap kind_in says, ap name_in says)
-made front given false false false true named ea eb ec ed e =
-    let says = rw (ea, eb, ec, ed) at e in ((bytes_eq-Decides front (codes "queue")).0 ed ∙ ap kind_in says, ap name_in says)
-made front given false false false false named ea eb ec ed e =
-    let says = ap name_in (rw (ea, eb, ec, ed) at e) in absurd (cc (says, named))
+-- the text before the colon is that of the kind, and the name is the word's
+made : {kind : Kind} {name : Name} (front : List ℕ) (given : Name) (found : Option Kind) → kind_by_text front ≡ found → kind_named found given ≡ Object kind (Some name) → (kind_text kind ≡ front) × (given ≡ name)
+made {kind} {name} front given (Some own) is e =
+    let same : own ≡ kind = cc e in
+    let named : given ≡ name = cc e in
+    (kind_has_text front kind (is ∙ ap Some same), named)
+made front given None is e = absurd (cc e)
 
 -- a text with a name behind its first colon is the bytes before it, the colon, and the name
 cut_at : (byte : ℕ) (text : List ℕ) (colon : Bool) → (byte == 58) ≡ colon →
@@ -97,29 +91,69 @@ cut : (text : List ℕ) → IsTrue (is_spelled (behind_first 58 text)) → text 
 cut [] spelled = absurd (true≢false (sym spelled))
 cut (byte ∷ text) spelled = cut_at byte text (byte == 58) refl (λ later. cut text later) spelled
 
-answer_name : {target : Word} {name : Name} (test : Bool) (answer : Word) → name_in target ≡ Some name → (if test then answer else Other) ≡ target → (test ≡ true) × (answer ≡ target)
-answer_name true answer named e = (refl, e)
-answer_name false answer named e = absurd (let says = ap name_in e in cc (says, named))
+answer_name : {kind : Kind} {name : Name} (test : Bool) (answer : Word) → (if test then answer else Other) ≡ Object kind (Some name) → (test ≡ true) × (answer ≡ Object kind (Some name))
+answer_name true answer e = (refl, e)
+answer_name false answer e = absurd (cc e)
 
--- a token that says a word with a name is the word's kind, a colon, and the name
-spells : {target : Word} {name : Name} (text : List ℕ) → name_in target ≡ Some name → word_of text ≡ target →
-    (spelled : List ℕ) × (text ≡ kind_in target ++ 58 ∷ spelled) × IsTrue (is_spelled spelled) × (name ≡ name_of spelled)
-spells text named e =
+-- a token that says a kind with a name is the kind's word, a colon, and the name
+spells : {kind : Kind} {name : Name} (text : List ℕ) → word_of text ≡ Object kind (Some name) →
+    (spelled : List ℕ) × (text ≡ kind_text kind ++ 58 ∷ spelled) × IsTrue (is_spelled spelled) × (name ≡ name_of spelled)
+spells text e =
     let front = before_first 58 text in
     let behind = behind_first 58 text in
-    let parts = answer_name (is_spelled behind) (kind_word front (name_of behind)) named (behind_argument text named (behind_quoted text (argument_word text) named e)) in
-    let is = made front (name_of behind) (bytes_eq front (codes "counter")) (bytes_eq front (codes "stack")) (bytes_eq front (codes "tree")) (bytes_eq front (codes "queue")) named refl refl refl refl parts.1 in
-    let same = is.1 in
-    (behind, cut text parts.0 ∙ ap (λ kind. kind ++ 58 ∷ behind) is.0, parts.0, cc (same, named))
+    let none = either_nameless (own_word text) (table_word text) (own_nameless text) (table_nameless (kind_by_text text) (word_by_text text)) in
+    let parts = answer_name (is_spelled behind) (kind_word front (name_of behind)) (behind_argument text (behind_quoted (quoted_word text) (argument_word text) none e)) in
+    let is = made front (name_of behind) (kind_by_text front) refl parts.1 in
+    (behind, cut text parts.0 ∙ ap (λ kind. kind ++ 58 ∷ behind) (sym is.0), parts.0, sym is.1)
 
-pub counter_takes_names : IsKindWord (codes "counter") Counter
-counter_takes_names = record { said = λ name spelled. simp (and_false, spelled) refl; alone = λ text name e. spells text refl e }
+-- the words of the table, as tokens
+and_false : (b : Bool) → (b && false) ≡ false
+and_false true = refl
+and_false false = refl
 
-pub stack_takes_names : IsKindWord (codes "stack") Stack
-stack_takes_names = record { said = λ name spelled. simp (and_false, spelled) refl; alone = λ text name e. spells text refl e }
+named_said : (kind : Kind) (name : List ℕ) → IsTrue (is_spelled name) → word_of (kind_text kind ++ 58 ∷ name) ≡ Object kind (Some (name_of name))
+named_said Counter name spelled = simp (and_false, spelled) refl
+named_said Stack name spelled = simp (and_false, spelled) refl
+named_said Tree name spelled = simp (and_false, spelled) refl
+named_said Queue name spelled = simp (and_false, spelled) refl
 
-pub tree_takes_names : IsKindWord (codes "tree") Tree
-tree_takes_names = record { said = λ name spelled. simp (and_false, spelled) refl; alone = λ text name e. spells text refl e }
+pub kind_takes_names : (kind : Kind) → IsKindWord kind
+kind_takes_names kind = record { said = λ name spelled. named_said kind name spelled; alone = λ text name e. spells text e }
 
-pub queue_takes_names : IsKindWord (codes "queue") Queue
-queue_takes_names = record { said = λ name spelled. simp (and_false, spelled) refl; alone = λ text name e. spells text refl e }
+-- what a test says of all of a list, it says of what is found in it
+found_says : {X : Type 0} (test says : X → Bool) (xs : List X) (x : X) → find test xs ≡ Some x → list_all says xs ≡ true → says x ≡ true
+found_says test says [] x e all = cc
+found_says test says (first ∷ xs) x e all = step (test first) (says first) refl e all (found_says test says xs x) where
+  step : (found said : Bool) → says first ≡ said → cond found (Some first) (find test xs) ≡ Some x → (said && list_all says xs) ≡ true → (find test xs ≡ Some x → list_all says xs ≡ true → says x ≡ true) → says x ≡ true
+  step true true is e all later = let same : first ≡ x = cc e in sym (ap says same) ∙ is
+  step false true is e all later = later e all
+  step found false is e all later = cc
+
+abbrev is_none : Option Word → Bool
+is_none None = true
+is_none (Some word) = false
+
+none_then : (found : Option Word) (second : Option Word) (other : Word) → is_none found ≡ true → unwrap_or (option_or found second) other ≡ unwrap_or second other
+none_then None second other e = refl
+none_then (Some word) second other e = cc
+
+pub kind_said : (kind : Kind) → word_of (kind_text kind) ≡ Object kind None
+kind_said kind =
+    let none = found_says (λ other. bytes_eq (kind_text kind) (kind_text other)) (λ kind. is_none (own_word (kind_text kind))) kinds kind (kind_found kind) refl in
+    none_then (own_word (kind_text kind)) (table_word (kind_text kind)) (argument_word (kind_text kind)) none
+    ∙ ap (λ found. unwrap_or (option_or (option_map (λ kind. Object kind None) found) (option_map (λ verb. Verb verb) (word_by_text (kind_text kind)))) (argument_word (kind_text kind))) (kind_found kind)
+
+pub verb_said : (spelled : VerbWord) → word_of (word_text spelled) ≡ Verb spelled
+verb_said spelled =
+    let own = found_says (λ other. bytes_eq (word_text spelled) (word_text other)) (λ word. is_none (own_word (word_text word))) verb_words spelled (word_found spelled) refl in
+    let none = found_says (λ other. bytes_eq (word_text spelled) (word_text other)) (λ word. is_none (option_map (λ kind. Object kind None) (kind_by_text (word_text word)))) verb_words spelled (word_found spelled) refl in
+    none_then (own_word (word_text spelled)) (table_word (word_text spelled)) (argument_word (word_text spelled)) own
+    ∙ none_then (option_map (λ kind. Object kind None) (kind_by_text (word_text spelled))) (option_map (λ verb. Verb verb) (word_by_text (word_text spelled))) (argument_word (word_text spelled)) none
+    ∙ ap (λ found. unwrap_or (option_map (λ verb. Verb verb) found) (argument_word (word_text spelled))) (word_found spelled)
+
+-- each kind has a verb
+pub verb_for : (kind : Kind) → (verb : ObjectVerb) × (kind_of_verb verb ≡ kind)
+verb_for Counter = (verbs.CounterAdd, refl)
+verb_for Stack = (verbs.Pop, refl)
+verb_for Tree = (verbs.TreeFind, refl)
+verb_for Queue = (verbs.PqTake, refl)

@@ -1,18 +1,24 @@
 -- Words that lead the machine to a state can go on to a job: an argument and closing braces complete them.
-use Rattle.std.proofs.Common.{◌≡◌, List, [], ◌∷◌, ◌++◌, false, Option, Some, None, refl, sym, ap, ◌∙◌, append_assoc, append-nil, subst}
-use Rattle.std.specs.Prelude.{ℕ, map, codes, IfSome}
+use Rattle.std.proofs.Common.{◌≡◌, List, [], ◌∷◌, ◌++◌, Bool, true, false, Option, Some, None, refl, sym, ap, ◌∙◌, append_assoc, append-nil, subst}
+use Rattle.std.specs.Prelude.{ℕ, map, codes, if◌then◌else◌, IfSome}
 use Rattle.job_syntax.specs.declared.lexer.word.Word.{Word}
-use Rattle.job_syntax.specs.declared.lexer.word.Word.TheVariants.{Add, Pop, Find, Take, Stack, Equals, Number, Named}
+use Rattle.job_syntax.specs.declared.lexer.word.Word.TheVariants.{Equals, Number, Named}
+use Rattle.job_syntax.specs.declared.lexer.word.Word.TheVariants as word
 use Rattle.job_names.specs.declared.name.Name.{Name}
 use Rattle.job_names.specs.Names.{name_of}
 use Rattle.job_syntax.specs.declared.parser.call.Object.{Object}
-use Rattle.job_syntax.specs.declared.parser.call.Object.TheVariants as object
+use Rattle.job_syntax.specs.declared.parser.call.Operator.{Operator}
+use Rattle.job_syntax.specs.declared.parser.call.Operator.TheVariants as operator
+use Rattle.seq_objects.specs.declared.verb.Verb.{Verb}
+use Rattle.seq_objects.specs.declared.kind.Kind.TheVariants.{Stack}
+use Rattle.seq_objects.specs.Verbs.{word_of_verb, word_text, takes_argument}
 use Rattle.job_syntax.specs.Words.{word_of}
-use Rattle.job_syntax.specs.Grammar.{Items, nothing, block_then, ◌then◌, BlockKind, for_loop, pfor_loop, stack_pop, queue_take, bound, UnaryOp, counter_add, tree_find, AreItems, Derives, CanGoOn, items_words}
-use Rattle.job_syntax.specs.Code.Machine.{OpenBlock, Place, an_item, a_let_name, an_equals, a_let_object, an_argument, a_call, for_copies, pfor_copies, a_brace, State, at, start, are_looped, step, run}
+use Rattle.job_syntax.specs.Grammar.{Items, nothing, block_then, ◌then◌, BlockKind, for_loop, pfor_loop, call, AreItems, Derives, CanGoOn, items_words}
+use Rattle.job_syntax.specs.Code.Machine.{OpenBlock, Place, an_item, a_let_name, an_equals, a_let_object, an_argument, a_call, for_copies, pfor_copies, a_brace, State, at, start, are_looped, given_leaf, with_leaf, step, run}
 use Rattle.job_syntax.proofs.ParserLemmas.Derivations.{words_then}
 use Rattle.job_syntax.proofs.ParserLemmas.Runs.{run-none, run-append, run_derived}
-use Rattle.job_syntax.proofs.ParserLemmas.Reached.{opening_words, AreBlocks, IsReached, start_reached, fits-then, moved, added, added_zero, reach, reach_brace}
+use Rattle.job_syntax.proofs.ParserLemmas.Reached.{opening_words, AreBlocks, IsReached, start_reached, fits-then, moved, added_zero, reach, reach_verb, reach_brace}
+use Rattle.job_syntax.proofs.LexerLemmas.KindWords.{verb_said, verb_for}
 
 -- the items after each open block is closed
 abbrev completed : List OpenBlock → Items → Items
@@ -57,22 +63,28 @@ goes_on_item {words} {blocks} {items} reached = record {
 goes_on_brace : {words : List Word} {blocks : List OpenBlock} {items : Items} (kind : BlockKind) → IsReached words (at blocks items (a_brace kind)) → CanGoOn words
 goes_on_brace {words} kind reached = goes_on_by words (codes "{") (goes_on_item (reach_brace kind reached))
 
-goes_on_argument : {words : List Word} {blocks : List OpenBlock} {items : Items} (given : Option Name) (op : UnaryOp) → IsReached words (at blocks items (an_argument given op)) → CanGoOn words
+goes_on_argument : {words : List Word} {blocks : List OpenBlock} {items : Items} (given : Option Name) (op : Operator) → IsReached words (at blocks items (an_argument given op)) → CanGoOn words
 goes_on_argument {words} given op reached =
     goes_on_by words (codes "0") (goes_on_item (added_zero given op reached))
 
+-- behind an object a verb of its kind can follow
+goes_on_verb : (words : List Word) (blocks : List OpenBlock) (items : Items) (given : Option Name) (of : Object) (verb : Verb) (carries : Bool) →
+    IsReached words (if carries then at blocks items (an_argument given (operator.Call verb of.name)) else with_leaf blocks items (given_leaf given (call verb of.name None))) → CanGoOn words
+goes_on_verb words blocks items given of verb true reached = goes_on_argument given (operator.Call verb of.name) reached
+goes_on_verb words blocks items given of verb false reached = goes_on_item reached
+
 goes_on_call : {words : List Word} {blocks : List OpenBlock} {items : Items} (given : Option Name) (of : Object) → IsReached words (at blocks items (a_call given of)) → CanGoOn words
-goes_on_call {words} None (object.Counter named) reached = goes_on_by words (codes "add") (goes_on_argument None (counter_add named) (moved (an_argument None (counter_add named)) Add reached refl tt))
-goes_on_call {words} None (object.Stack named) reached = goes_on_by words (codes "pop") (goes_on_item (added (stack_pop named) Pop reached refl tt))
-goes_on_call {words} None (object.Tree named) reached = goes_on_by words (codes "find") (goes_on_argument None (tree_find named) (moved (an_argument None (tree_find named)) Find reached refl tt))
-goes_on_call {words} None (object.Queue named) reached = goes_on_by words (codes "take") (goes_on_item (added (queue_take named) Take reached refl tt))
-goes_on_call {words} (Some name) (object.Counter named) reached = goes_on_by words (codes "add") (goes_on_argument (Some name) (counter_add named) (moved (an_argument (Some name) (counter_add named)) Add reached refl tt))
-goes_on_call {words} (Some name) (object.Stack named) reached = goes_on_by words (codes "pop") (goes_on_item (added (bound name (stack_pop named)) Pop reached refl tt))
-goes_on_call {words} (Some name) (object.Tree named) reached = goes_on_by words (codes "find") (goes_on_argument (Some name) (tree_find named) (moved (an_argument (Some name) (tree_find named)) Find reached refl tt))
-goes_on_call {words} (Some name) (object.Queue named) reached = goes_on_by words (codes "take") (goes_on_item (added (bound name (queue_take named)) Take reached refl tt))
+goes_on_call {words} {blocks} {items} given of reached =
+    let verb = (verb_for of.kind).0 in
+    let spelled = word.Verb (word_of_verb verb) in
+    let next = reach_verb given of spelled verb reached (ap (λ kind. word.Object kind of.name ∷ spelled ∷ []) (sym (verb_for of.kind).1)) (takes_argument verb) refl in
+    goes_on_by words (word_text (word_of_verb verb))
+    (subst (λ last. CanGoOn (words ++ last ∷ [])) (sym (verb_said (word_of_verb verb))) (goes_on_verb (words ++ spelled ∷ []) blocks items given of verb (takes_argument verb) next))
 
 goes_on_object : {words : List Word} {blocks : List OpenBlock} {items : Items} (name : Name) → IsReached words (at blocks items (a_let_object name)) → CanGoOn words
-goes_on_object {words} name reached = goes_on_by words (codes "stack") (goes_on_call (Some name) (object.Stack None) (moved (a_call (Some name) (object.Stack None)) (Stack None) reached refl tt))
+goes_on_object {words} name reached =
+    let of : Object = record { kind = Stack; name = None } in
+    goes_on_by words (codes "stack") (goes_on_call (Some name) of (moved (a_call (Some name) of) (word.Object Stack None) reached refl tt))
 
 goes_on_equals : {words : List Word} {blocks : List OpenBlock} {items : Items} (name : Name) → IsReached words (at blocks items (an_equals name)) → CanGoOn words
 goes_on_equals {words} name reached = goes_on_by words (codes "=") (goes_on_object name (moved (a_let_object name) Equals reached refl tt))

@@ -7,7 +7,7 @@ use Rattle.job_names.specs.declared.name.Name.{Name}
 use Rattle.job_names.specs.declared.scopes.Let.{Let}
 use Rattle.job_syntax.specs.declared.lexer.word.Word.{Word}
 use Rattle.job_syntax.specs.declared.lexer.word.Word.TheVariants.{Open, Close}
-use Rattle.job_syntax.specs.Grammar.{Leaf, with_argument, stack_pop, queue_take, bound, BlockKind, Items, nothing, leaf_then, block_then, leaf_words, kind_words, items_words, is_loop, is_par}
+use Rattle.job_syntax.specs.Grammar.{Leaf, work, call, bound, BlockKind, Items, nothing, leaf_then, block_then, leaf_words, kind_words, items_words, is_loop, is_par}
 use Rattle.job_syntax.specs.Code.Shown.{OpenBlock}
 use Rattle.job_syntax.specs.Code.Reached.{opening_words}
 use Rattle.job_syntax.proofs.ParserLemmas.NamesSeen.{Has, names_of, names_behind, names_seen}
@@ -19,10 +19,9 @@ HasLet (x ∷ xs) name place = ((x.name ≡ name) × (x.number ≡ place)) ⊎ H
 
 -- the let of a leaf, behind this many words
 abbrev pub lets_of : ℕ → Leaf → List Let
-lets_of at (with_argument op argument) = []
-lets_of at (stack_pop named) = []
-lets_of at (queue_take named) = []
-lets_of at (bound name call) = record { name = name; number = at } ∷ []
+lets_of at (work argument) = []
+lets_of at (call verb object argument) = []
+lets_of at (bound name leaf) = record { name = name; number = at } ∷ []
 
 -- the lets that items give to what comes behind them, the latest first
 abbrev pub lets_behind : ℕ → Items → List Let
@@ -66,10 +65,9 @@ both_names : (ns ms : List Name) (xs ys : List Let) → ns ≡ map (λ (l : Let)
 both_names ns ms xs ys e f = ap (λ n. n ++ ms) e ∙ ap (λ m. map (λ (l : Let). l.name) xs ++ m) f ∙ sym (map-append (λ (l : Let). l.name) xs ys)
 
 leaf_names : (at : ℕ) (leaf : Leaf) → names_of leaf ≡ map (λ (l : Let). l.name) (lets_of at leaf)
-leaf_names at (with_argument op argument) = refl
-leaf_names at (stack_pop named) = refl
-leaf_names at (queue_take named) = refl
-leaf_names at (bound name call) = refl
+leaf_names at (work argument) = refl
+leaf_names at (call verb object argument) = refl
+leaf_names at (bound name leaf) = refl
 
 behind_names : (at : ℕ) (items : Items) → names_behind items ≡ map (λ (l : Let). l.name) (lets_behind at items)
 behind_names at nothing = refl

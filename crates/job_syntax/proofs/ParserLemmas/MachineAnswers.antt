@@ -4,17 +4,20 @@ use Rattle.std.proofs.lemmas.List.{map-append}
 use Rattle.std.proofs.lemmas.Bool.{leb-true, leb-false}
 use Rattle.std.specs.Prelude.{IsTrue, if◌then◌else◌, IfSome, MatchResult, nat_le}
 use Rattle.job_syntax.specs.declared.lexer.word.Word.{Word}
-use Rattle.job_syntax.specs.declared.lexer.word.Word.TheVariants.{Open, Close, Work, Counter, Stack, Tree, Queue, Add, Push, Pop, Insert, Remove, Find, Next, Take, Seq, Par, For, Pfor, Let, Equals, Number, Copies, Named}
+use Rattle.job_syntax.specs.declared.lexer.word.Word.TheVariants.{Open, Close, Work, Seq, Par, For, Pfor, Let, Equals, Number, Named}
+use Rattle.job_syntax.specs.declared.lexer.word.Word.TheVariants as word
 use Rattle.job_syntax.specs.declared.lexer.word.WordOnLine.{WordOnLine}
 use Rattle.job_syntax.specs.declared.fault.JobFault.{JobFault}
 use Rattle.job_syntax.specs.declared.fault.JobFault.TheVariants as fault
 use Rattle.job_names.specs.declared.name.Name.{Name}
-use Rattle.job_syntax.specs.declared.parser.call.Object.{Object}
-use Rattle.job_syntax.specs.declared.parser.call.Object.TheVariants as object
-use Rattle.job_syntax.specs.Grammar.{Items, Derives, CanGoOn, UnaryOp, work, counter_add, stack_push, tree_insert, tree_remove, tree_find, tree_next, queue_insert, is_argument, is_call_argument, takes}
+use Rattle.job_syntax.specs.declared.parser.call.Operator.{Operator}
+use Rattle.seq_objects.specs.declared.verb.Verb.{Verb}
+use Rattle.seq_objects.specs.Verbs.{takes_argument, verb_by}
+use Rattle.job_syntax.specs.Grammar.{Items, Derives, CanGoOn}
 use Rattle.job_syntax.specs.Visibility.{Sees, IsKnown}
 use Rattle.job_syntax.specs.Faults.{words_of, has_good_numbers, open_behind, IsClean, AreClean, IsReadingFaultBehind}
-use Rattle.job_syntax.specs.Code.Machine.{OpenBlock, ParsedCall, unary, whole, call_behind, behind_call, call_step, Place, an_item, a_let_name, an_equals, a_let_object, an_argument, a_call, for_copies, pfor_copies, a_brace, State, at, start, are_looped, item_step, step_at, step, run, is_known, checked_word, checked_step, end_at, on_state, read_from}
+use Rattle.job_syntax.specs.Code.Machine.{OpenBlock, takes, call_step, Place, an_item, a_let_name, an_equals, a_let_object, an_argument, a_call, for_copies, pfor_copies, a_brace, State, at, start, are_looped, item_step, step_at, step, run, is_known, checked_word, checked_step, end_at, on_state, read_from}
+use Rattle.job_syntax.proofs.ParserLemmas.Plain.{is_plain, plain_taken}
 use Rattle.job_syntax.proofs.ParserLemmas.Runs.{run-append, run_derived, dead}
 use Rattle.job_syntax.proofs.ParserLemmas.Reached.{IsReached, start_reached, reach}
 use Rattle.job_syntax.proofs.ParserLemmas.Completions.{goes_on}
@@ -25,10 +28,7 @@ depth_item : (blocks : List OpenBlock) (items : Items) (word : Word) → IfSome 
 depth_item [] items Close = tt
 depth_item (block ∷ blocks) items Close = omega arith
 depth_item blocks items Work = refl
-depth_item blocks items (Counter named) = refl
-depth_item blocks items (Stack named) = refl
-depth_item blocks items (Tree named) = refl
-depth_item blocks items (Queue named) = refl
+depth_item blocks items (word.Object kind name) = refl
 depth_item blocks items Let = refl
 depth_item blocks items Seq = refl
 depth_item blocks items Par = refl
@@ -36,52 +36,27 @@ depth_item blocks items For = refl
 depth_item blocks items Pfor = refl
 depth_item blocks items _ = tt
 
-depth_argument : (looped : Bool) (word : Word) (n : ℕ) → is_argument looped word ≡ true → open_behind n (word ∷ []) ≡ n
-depth_argument looped (Number number) n e = refl
-depth_argument looped (Copies by) n e = refl
-depth_argument looped _ n e = cc
+depth_plain : (word : Word) (n : ℕ) → IsTrue (is_plain word) → open_behind n (word ∷ []) ≡ n
+depth_plain Open n e = cc
+depth_plain Close n e = cc
+depth_plain _ n e = refl
 
-depth_value : (looped : Bool) (word : Word) (n : ℕ) → is_call_argument looped word ≡ true → open_behind n (word ∷ []) ≡ n
-depth_value looped (Number number) n e = refl
-depth_value looped (Copies by) n e = refl
-depth_value looped (Named name) n e = refl
-depth_value looped _ n e = cc
-
-pub depth_taken : (op : UnaryOp) (looped : Bool) (word : Word) (n : ℕ) → takes op looped word ≡ true → open_behind n (word ∷ []) ≡ n
-depth_taken work looped word n e = depth_argument looped word n e
-depth_taken (counter_add named) looped word n e = depth_value looped word n e
-depth_taken (stack_push named) looped word n e = depth_value looped word n e
-depth_taken (tree_insert named) looped word n e = depth_value looped word n e
-depth_taken (tree_remove named) looped word n e = depth_value looped word n e
-depth_taken (tree_find named) looped word n e = depth_value looped word n e
-depth_taken (tree_next named) looped word n e = depth_value looped word n e
-depth_taken (queue_insert named) looped word n e = depth_value looped word n e
+pub depth_taken : (op : Operator) (looped : Bool) (word : Word) (n : ℕ) → takes op looped word ≡ true → open_behind n (word ∷ []) ≡ n
+depth_taken op looped word n e = depth_plain word n (plain_taken op looped word e)
 
 depth_when : (blocks : List OpenBlock) (spelled : Word) (b : Bool) (new : State) → new.blocks ≡ blocks → (b ≡ true → open_behind (length blocks) (spelled ∷ []) ≡ length blocks) →
     IfSome (if b then Some new else None) (λ state. length state.blocks ≡ open_behind (length blocks) (spelled ∷ []))
 depth_when blocks spelled false new e flat = tt
 depth_when blocks spelled true new e flat = ap length e ∙ sym (flat refl)
 
-depth_call : (blocks : List OpenBlock) (items : Items) (given : Option Name) (call : ParsedCall) → length (behind_call blocks items given call).blocks ≡ length blocks
-depth_call blocks items given (unary op) = refl
-depth_call blocks items given (whole leaf) = refl
+depth_verb : (blocks : List OpenBlock) (takes : Bool) (argument whole : State) → argument.blocks ≡ blocks → whole.blocks ≡ blocks → length (if takes then argument else whole).blocks ≡ length blocks
+depth_verb blocks true argument whole e f = ap length e
+depth_verb blocks false argument whole e f = ap length f
 
-depth_found : (blocks : List OpenBlock) (items : Items) (given : Option Name) (spelled : Word) (found : Option ParsedCall) → IfSome found (λ call. open_behind (length blocks) (spelled ∷ []) ≡ length blocks) →
-    IfSome (call_step blocks items given found) (λ state. length state.blocks ≡ open_behind (length blocks) (spelled ∷ []))
-depth_found blocks items given spelled None h = tt
-depth_found blocks items given spelled (Some call) h = depth_call blocks items given call ∙ sym h
-
-depth_of_call : (of : Object) (word : Word) (n : ℕ) → IfSome (call_behind of word) (λ call. open_behind n (word ∷ []) ≡ n)
-depth_of_call (object.Counter named) Add n = refl
-depth_of_call (object.Stack named) Push n = refl
-depth_of_call (object.Stack named) Pop n = refl
-depth_of_call (object.Tree named) Insert n = refl
-depth_of_call (object.Tree named) Remove n = refl
-depth_of_call (object.Tree named) Find n = refl
-depth_of_call (object.Tree named) Next n = refl
-depth_of_call (object.Queue named) Insert n = refl
-depth_of_call (object.Queue named) Take n = refl
-depth_of_call _ _ n = tt
+depth_call : (blocks : List OpenBlock) (items : Items) (given object : Option Name) (found : Option Verb) →
+    IfSome (call_step blocks items given object found) (λ state. length state.blocks ≡ length blocks)
+depth_call blocks items given object None = tt
+depth_call blocks items given object (Some verb) = depth_verb blocks (takes_argument verb) _ _ refl refl
 
 depth : (blocks : List OpenBlock) (items : Items) (place : Place) (word : Word) → IfSome (step_at blocks items place word) (λ state. length state.blocks ≡ open_behind (length blocks) (word ∷ []))
 depth blocks items an_item word = depth_item blocks items word
@@ -89,13 +64,11 @@ depth blocks items a_let_name (Named name) = refl
 depth blocks items a_let_name _ = tt
 depth blocks items (an_equals name) Equals = refl
 depth blocks items (an_equals name) _ = tt
-depth blocks items (a_let_object name) (Counter named) = refl
-depth blocks items (a_let_object name) (Stack named) = refl
-depth blocks items (a_let_object name) (Tree named) = refl
-depth blocks items (a_let_object name) (Queue named) = refl
-depth blocks items (a_let_object name) _ = tt
+depth blocks items (a_let_object given) (word.Object kind name) = refl
+depth blocks items (a_let_object given) _ = tt
 depth blocks items (an_argument given op) word = depth_when blocks word (takes op (are_looped blocks) word) _ refl (depth_taken op (are_looped blocks) word (length blocks))
-depth blocks items (a_call given of) word = depth_found blocks items given word (call_behind of word) (depth_of_call of word (length blocks))
+depth blocks items (a_call given of) (word.Verb spelled) = depth_call blocks items given of.name (verb_by of.kind spelled)
+depth blocks items (a_call given of) _ = tt
 depth blocks items for_copies (Number number) = refl
 depth blocks items for_copies _ = tt
 depth blocks items pfor_copies (Number number) = refl

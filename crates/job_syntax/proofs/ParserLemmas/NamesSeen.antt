@@ -1,11 +1,12 @@
 -- The names that are seen behind a front of a text: its open blocks with the items before each, and the items in the
 -- innermost.
-use Rattle.std.proofs.Common.{◌≡◌, ◌⊎◌, inl, inr, List, [], ◌∷◌, ◌++◌, Bool, true}
+use Rattle.std.proofs.Common.{◌≡◌, ◌⊎◌, inl, inr, List, [], ◌∷◌, ◌++◌, Bool, true, false, Option, Some, None}
 use Rattle.std.specs.Prelude.{if◌then◌else◌, IsTrue, ◌||◌}
 use Rattle.job_names.specs.declared.name.Name.{Name}
 use Rattle.job_syntax.specs.declared.lexer.word.Word.{Word}
 use Rattle.job_syntax.specs.declared.lexer.word.Word.TheVariants.{Number, Copies, Named}
-use Rattle.job_syntax.specs.Grammar.{work, counter_add, stack_push, tree_insert, tree_remove, tree_find, tree_next, queue_insert, Leaf, with_argument, stack_pop, queue_take, bound, Items, nothing, leaf_then, block_then, is_argument, is_call_argument, is_loop, is_par, IsCall, IsLeaf, IsBlockKind, AreItems}
+use Rattle.seq_objects.specs.Verbs.{takes_argument}
+use Rattle.job_syntax.specs.Grammar.{Leaf, work, call, bound, Items, nothing, leaf_then, block_then, is_argument, is_call_argument, is_loop, is_par, FitsVerb, IsCall, IsLeaf, IsBlockKind, AreItems}
 use Rattle.job_syntax.specs.Code.Shown.{OpenBlock}
 use Rattle.job_syntax.specs.Code.Machine.{are_looped}
 use Rattle.job_syntax.specs.Code.Reached.{AreBlocks}
@@ -29,10 +30,9 @@ has_right [] ys n h = h
 has_right (x ∷ xs) ys n h = inr (has_right xs ys n h)
 
 abbrev pub names_of : Leaf → List Name
-names_of (with_argument op argument) = []
-names_of (stack_pop named) = []
-names_of (queue_take named) = []
-names_of (bound name call) = name ∷ []
+names_of (work argument) = []
+names_of (call verb object argument) = []
+names_of (bound name leaf) = name ∷ []
 
 -- the names that items give to what comes behind them, the latest first
 abbrev pub names_behind : Items → List Name
@@ -65,31 +65,21 @@ flat_value looped (Copies n) h = λ i. true
 flat_value looped (Named n) h = h
 flat_value looped _ h = cc
 
-pub flat_call : (looped : Bool) (call : Leaf) → IsCall looped call → IsCall true call
-flat_call looped (with_argument work w) h = h
-flat_call looped (with_argument (counter_add named) w) h = flat_value looped w h
-flat_call looped (with_argument (stack_push named) w) h = flat_value looped w h
-flat_call looped (with_argument (tree_insert named) w) h = flat_value looped w h
-flat_call looped (with_argument (tree_remove named) w) h = flat_value looped w h
-flat_call looped (with_argument (tree_find named) w) h = flat_value looped w h
-flat_call looped (with_argument (tree_next named) w) h = flat_value looped w h
-flat_call looped (with_argument (queue_insert named) w) h = flat_value looped w h
-flat_call looped (stack_pop named) h = h
-flat_call looped (queue_take named) h = h
-flat_call looped (bound name call) h = h
+flat_behind : (looped takes : Bool) (argument : Option Word) → FitsVerb looped takes argument → FitsVerb true takes argument
+flat_behind looped true (Some w) h = flat_value looped w h
+flat_behind looped true None h = h
+flat_behind looped false None h = h
+flat_behind looped false (Some w) h = h
+
+pub flat_call : (looped : Bool) (leaf : Leaf) → IsCall looped leaf → IsCall true leaf
+flat_call looped (work w) h = h
+flat_call looped (call verb object argument) h = flat_behind looped (takes_argument verb) argument h
+flat_call looped (bound name leaf) h = h
 
 flat_leaf : (looped : Bool) (leaf : Leaf) → IsLeaf looped leaf → IsLeaf true leaf
-flat_leaf looped (with_argument work w) h = flat_argument looped w h
-flat_leaf looped (with_argument (counter_add named) w) h = flat_value looped w h
-flat_leaf looped (with_argument (stack_push named) w) h = flat_value looped w h
-flat_leaf looped (with_argument (tree_insert named) w) h = flat_value looped w h
-flat_leaf looped (with_argument (tree_remove named) w) h = flat_value looped w h
-flat_leaf looped (with_argument (tree_find named) w) h = flat_value looped w h
-flat_leaf looped (with_argument (tree_next named) w) h = flat_value looped w h
-flat_leaf looped (with_argument (queue_insert named) w) h = flat_value looped w h
-flat_leaf looped (stack_pop named) h = h
-flat_leaf looped (queue_take named) h = h
-flat_leaf looped (bound name call) h = flat_call looped call h
+flat_leaf looped (work w) h = flat_argument looped w h
+flat_leaf looped (call verb object argument) h = flat_behind looped (takes_argument verb) argument h
+flat_leaf looped (bound name leaf) h = flat_call looped leaf h
 
 pub flat_items : (looped : Bool) (items : Items) → AreItems looped items → AreFlat items
 flat_items looped nothing h = h

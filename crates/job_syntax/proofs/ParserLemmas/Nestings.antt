@@ -4,12 +4,13 @@ use Rattle.std.specs.Prelude.{Bool, IsTrue, ◌||◌, ◌↔◌}
 use Rattle.std.specs.List.{AllByRecursion}
 use Rattle.std.proofs.lemmas.List.{map-append}
 use Rattle.job_syntax.specs.declared.lexer.word.Word.{Word}
-use Rattle.job_syntax.specs.declared.lexer.word.Word.TheVariants.{Open, Close, Number, Copies, Named}
+use Rattle.job_syntax.specs.declared.lexer.word.Word.TheVariants.{Open, Close, Number}
 use Rattle.job_syntax.specs.declared.lexer.word.WordOnLine.{WordOnLine}
-use Rattle.job_syntax.specs.Grammar.{Items, nothing, leaf_then, block_then, BlockKind, seq_block, par_block, for_loop, pfor_loop, Leaf, with_argument, stack_pop, queue_take, bound, work, counter_add, stack_push, tree_insert, tree_remove, tree_find, tree_next, queue_insert, is_number, is_argument, is_call_argument, is_loop, IsCall, IsLeaf, IsBlockKind, AreItems, Derives, items_words, leaf_words, kind_words}
+use Rattle.job_syntax.specs.Grammar.{Items, nothing, leaf_then, block_then, BlockKind, seq_block, par_block, for_loop, pfor_loop, Leaf, is_number, is_loop, IsLeaf, IsBlockKind, AreItems, Derives, items_words, leaf_words, kind_words}
 use Rattle.job_syntax.specs.Faults.{words_of, has_good_numbers, open_behind, AreClean}
 use Rattle.job_syntax.specs.Blocks.{nesting}
 use Rattle.job_syntax.specs.ItemsOf.{AreKnown}
+use Rattle.job_syntax.proofs.ParserLemmas.Plain.{is_plain, ArePlain, by_plain}
 use Rattle.job_syntax.proofs.ParserLemmas.MachineAnswers.{open_behind-push}
 use Rattle.job_syntax.proofs.ParserLemmas.Completions.{front_goes_on}
 
@@ -21,42 +22,20 @@ AreNested n (Close ∷ words) = AreNested (n - 1) words
 AreNested n (_ ∷ words) = AreNested n words
 
 -- neither a leaf nor the head of a block has a brace
-skip_argument : (looped : Bool) (n : ℕ) (argument : Word) (words : List Word) → IsTrue (is_argument looped argument) → AreNested n (argument ∷ words) ↔ AreNested n words
-skip_argument looped n (Number number) words fits = ((λ h. h), (λ h. h))
-skip_argument looped n (Copies by) words fits = ((λ h. h), (λ h. h))
-skip_argument looped n _ words fits = absurd (cc fits)
+skip_word : (n : ℕ) (w : Word) (words : List Word) → IsTrue (is_plain w) → AreNested n (w ∷ words) ↔ AreNested n words
+skip_word n Open words plain = absurd (cc plain)
+skip_word n Close words plain = absurd (cc plain)
+skip_word n _ words plain = ((λ h. h), (λ h. h))
 
-skip_value : (looped : Bool) (n : ℕ) (argument : Word) (words : List Word) → IsTrue (is_call_argument looped argument) → AreNested n (argument ∷ words) ↔ AreNested n words
-skip_value looped n (Number number) words fits = ((λ h. h), (λ h. h))
-skip_value looped n (Copies by) words fits = ((λ h. h), (λ h. h))
-skip_value looped n (Named name) words fits = ((λ h. h), (λ h. h))
-skip_value looped n _ words fits = absurd (cc fits)
-
-skip_call : (looped : Bool) (n : ℕ) (call : Leaf) (words : List Word) → IsCall looped call → AreNested n (leaf_words call ++ words) ↔ AreNested n words
-skip_call looped n (with_argument work argument) words fits = elim fits [ ]
-skip_call looped n (with_argument (counter_add named) argument) words fits = skip_value looped n argument words fits
-skip_call looped n (with_argument (stack_push named) argument) words fits = skip_value looped n argument words fits
-skip_call looped n (with_argument (tree_insert named) argument) words fits = skip_value looped n argument words fits
-skip_call looped n (with_argument (tree_remove named) argument) words fits = skip_value looped n argument words fits
-skip_call looped n (with_argument (tree_find named) argument) words fits = skip_value looped n argument words fits
-skip_call looped n (with_argument (tree_next named) argument) words fits = skip_value looped n argument words fits
-skip_call looped n (with_argument (queue_insert named) argument) words fits = skip_value looped n argument words fits
-skip_call looped n (stack_pop named) words fits = ((λ h. h), (λ h. h))
-skip_call looped n (queue_take named) words fits = ((λ h. h), (λ h. h))
-skip_call looped n (bound name call) words fits = elim fits [ ]
+skip_plain : (n : ℕ) (front words : List Word) → ArePlain front → AreNested n (front ++ words) ↔ AreNested n words
+skip_plain n [] words plain = ((λ h. h), (λ h. h))
+skip_plain n (w ∷ front) words plain =
+    let first = skip_word n w (front ++ words) plain.0 in
+    let more = skip_plain n front words plain.1 in
+    ((λ h. more.0 (first.0 h)), (λ h. first.1 (more.1 h)))
 
 skip_leaf : (looped : Bool) (n : ℕ) (leaf : Leaf) (words : List Word) → IsLeaf looped leaf → AreNested n (leaf_words leaf ++ words) ↔ AreNested n words
-skip_leaf looped n (with_argument work argument) words fits = skip_argument looped n argument words fits
-skip_leaf looped n (with_argument (counter_add named) argument) words fits = skip_value looped n argument words fits
-skip_leaf looped n (with_argument (stack_push named) argument) words fits = skip_value looped n argument words fits
-skip_leaf looped n (with_argument (tree_insert named) argument) words fits = skip_value looped n argument words fits
-skip_leaf looped n (with_argument (tree_remove named) argument) words fits = skip_value looped n argument words fits
-skip_leaf looped n (with_argument (tree_find named) argument) words fits = skip_value looped n argument words fits
-skip_leaf looped n (with_argument (tree_next named) argument) words fits = skip_value looped n argument words fits
-skip_leaf looped n (with_argument (queue_insert named) argument) words fits = skip_value looped n argument words fits
-skip_leaf looped n (stack_pop named) words fits = ((λ h. h), (λ h. h))
-skip_leaf looped n (queue_take named) words fits = ((λ h. h), (λ h. h))
-skip_leaf looped n (bound name call) words fits = skip_call looped n call words fits
+skip_leaf looped n leaf words fits = by_plain (λ front. AreNested n (front ++ words) ↔ AreNested n words) (λ front plain. skip_plain n front words plain) (λ name front plain. skip_plain n front words plain) looped leaf fits
 
 skip_number : (n : ℕ) (number : Word) (words : List Word) → IsTrue (is_number number) → AreNested n (number ∷ words) ↔ AreNested n words
 skip_number n (Number number) words fits = ((λ h. h), (λ h. h))

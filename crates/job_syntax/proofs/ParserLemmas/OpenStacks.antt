@@ -88,6 +88,5 @@ let_added items name call = items_of_push items (LetItem name call) ∙ ap (λ i
 
 -- a leaf of the code that is no let makes none
 pub plain_leaf : (leaf : Leaf) → lets_of (leaf_of leaf) ≡ []
-plain_leaf (leaf.WithArgument op argument) = refl
-plain_leaf (leaf.StackPop named) = refl
-plain_leaf (leaf.QueueTake named) = refl
+plain_leaf (leaf.Work argument) = refl
+plain_leaf (leaf.Call verb object argument) = refl

@@ -1,15 +1,20 @@
 -- What a state that the machine reaches implies for the words that led there.
-use Rattle.std.proofs.Common.{◌≡◌, List, [], ◌∷◌, ◌++◌, Bool, true, false, Option, Some, None, refl, sym, ap, ◌∙◌, append_assoc, append-nil}
+use Rattle.std.proofs.Common.{◌≡◌, List, [], ◌∷◌, ◌++◌, Bool, true, false, Option, Some, None, refl, sym, ap, ◌∙◌, append_assoc, append-nil, subst}
 use Rattle.std.specs.Prelude.{if◌then◌else◌, IfSome}
 use Rattle.job_syntax.specs.declared.lexer.word.Word.{Word}
-use Rattle.job_syntax.specs.declared.lexer.word.Word.TheVariants.{Open, Close, Work, Counter, Stack, Tree, Queue, Add, Push, Pop, Insert, Remove, Find, Next, Take, Seq, Par, For, Pfor, Let, Equals, Number, Named}
+use Rattle.job_syntax.specs.declared.lexer.word.Word.TheVariants.{Open, Close, Work, Seq, Par, For, Pfor, Let, Equals, Number, Named}
+use Rattle.job_syntax.specs.declared.lexer.word.Word.TheVariants as word
 use Rattle.job_names.specs.declared.name.Name.{Name}
 use Rattle.job_syntax.specs.declared.parser.call.Object.{Object}
-use Rattle.job_syntax.specs.declared.parser.call.Object.TheVariants as object
-use Rattle.job_syntax.specs.Grammar.{Items, nothing, leaf_then, block_then, ◌then◌, BlockKind, seq_block, par_block, for_loop, pfor_loop, Leaf, with_argument, UnaryOp, work, counter_add, stack_push, tree_insert, tree_remove, tree_find, tree_next, queue_insert, is_number, takes, IsCall, IsLeaf, AreItems, items_words, leaf_words, kind_words, unary_op_words}
-use Rattle.job_syntax.specs.Code.Machine.{OpenBlock, ParsedCall, unary, whole, call_behind, Place, an_item, a_let_name, an_equals, a_let_object, object_of, given_leaf, let_name_step, equals_step, object_step, an_argument, a_call, for_copies, pfor_copies, a_brace, at, start, are_looped, with_leaf, after_open, item_step, call_step, step_at}
+use Rattle.job_syntax.specs.declared.parser.call.Operator.{Operator}
+use Rattle.job_syntax.specs.declared.parser.call.Operator.TheVariants as operator
+use Rattle.seq_objects.specs.declared.verb.Verb.{Verb}
+use Rattle.seq_objects.specs.Verbs.{takes_argument}
+use Rattle.job_syntax.specs.Grammar.{Items, nothing, leaf_then, block_then, ◌then◌, BlockKind, seq_block, par_block, for_loop, pfor_loop, Leaf, call, is_number, FitsVerb, IsLeaf, AreItems, items_words, leaf_words, kind_words}
+use Rattle.job_syntax.specs.Code.Machine.{OpenBlock, operator_words, takes, with_operand, verb_behind, Place, an_item, a_let_name, an_equals, a_let_object, object_of, given_leaf, let_name_step, equals_step, object_step, an_argument, a_call, for_copies, pfor_copies, a_brace, at, start, are_looped, with_leaf, after_open, item_step, call_step, step_at}
 pub use Rattle.job_syntax.specs.Code.Reached.{opening_words, object_words, given_words, place_words, state_words, AreBlocks, IsGiven, IsPlace, IsReached}
 use Rattle.job_syntax.proofs.ParserLemmas.Derivations.{words_then}
+use Rattle.seq_objects.proofs.Verbs.{verb_has_parts}
 
 pub start_reached : IsReached [] start
 start_reached = record { writes = refl; blocks = tt; items = tt; place = tt }
@@ -47,43 +52,37 @@ added {words} {blocks} {items} {old} leaf last reached e fits = record {
 }
 
 -- the words of a leaf whose argument is the last word, and what it needs to fit
-given_argument : (given : Option Name) (op : UnaryOp) (last : Word) → place_words (an_argument given op) ++ last ∷ [] ≡ leaf_words (given_leaf given (with_argument op last))
-given_argument None op last = refl
-given_argument (Some name) op last = refl
+given_argument : (given : Option Name) (op : Operator) (last : Word) → place_words (an_argument given op) ++ last ∷ [] ≡ leaf_words (given_leaf given (with_operand op last))
+given_argument None operator.Work last = refl
+given_argument None (operator.Call verb object) last = refl
+given_argument (Some name) operator.Work last = refl
+given_argument (Some name) (operator.Call verb object) last = refl
 
-fits_given : (looped : Bool) (given : Option Name) (op : UnaryOp) (last : Word) → IsGiven given op → takes op looped last ≡ true → IsLeaf looped (given_leaf given (with_argument op last))
-fits_given looped None op last is e = e
-fits_given looped (Some name) work last is e = elim is [ ]
-fits_given looped (Some name) (counter_add named) last is e = e
-fits_given looped (Some name) (stack_push named) last is e = e
-fits_given looped (Some name) (tree_insert named) last is e = e
-fits_given looped (Some name) (tree_remove named) last is e = e
-fits_given looped (Some name) (tree_find named) last is e = e
-fits_given looped (Some name) (tree_next named) last is e = e
-fits_given looped (Some name) (queue_insert named) last is e = e
+fits_call : (looped : Bool) (given : Option Name) (verb : Verb) (object : Option Name) (argument : Option Word) (carries : Bool) → takes_argument verb ≡ carries → FitsVerb looped carries argument → IsLeaf looped (given_leaf given (call verb object argument))
+fits_call looped None verb object argument carries is fits = subst (λ carries. FitsVerb looped carries argument) (sym is) fits
+fits_call looped (Some name) verb object argument carries is fits = subst (λ carries. FitsVerb looped carries argument) (sym is) fits
 
-reach_argument : (words : List Word) (blocks : List OpenBlock) (items : Items) (given : Option Name) (op : UnaryOp) (last : Word) → IsReached words (at blocks items (an_argument given op)) →
+fits_given : (looped : Bool) (given : Option Name) (op : Operator) (last : Word) → IsGiven given op → takes op looped last ≡ true → IsLeaf looped (given_leaf given (with_operand op last))
+fits_given looped None operator.Work last is e = e
+fits_given looped (Some name) operator.Work last is e = elim is [ ]
+fits_given looped given (operator.Call verb object) last is e = fits_call looped given verb object (Some last) true is e
+
+reach_argument : (words : List Word) (blocks : List OpenBlock) (items : Items) (given : Option Name) (op : Operator) (last : Word) → IsReached words (at blocks items (an_argument given op)) →
     (b : Bool) → takes op (are_looped blocks) last ≡ b →
-    IfSome (if b then Some (with_leaf blocks items (given_leaf given (with_argument op last))) else None) (IsReached (words ++ last ∷ []))
+    IfSome (if b then Some (with_leaf blocks items (given_leaf given (with_operand op last))) else None) (IsReached (words ++ last ∷ []))
 reach_argument words blocks items given op last reached false e = tt
 reach_argument words blocks items given op last reached true e =
-    added (given_leaf given (with_argument op last)) last reached (given_argument given op last) (fits_given (are_looped blocks) given op last reached.place e)
+    added (given_leaf given (with_operand op last)) last reached (given_argument given op last) (fits_given (are_looped blocks) given op last reached.place e)
 
-takes_zero : (looped : Bool) (op : UnaryOp) → takes op looped (Number (Some 0)) ≡ true
-takes_zero looped work = refl
-takes_zero looped (counter_add named) = refl
-takes_zero looped (stack_push named) = refl
-takes_zero looped (tree_insert named) = refl
-takes_zero looped (tree_remove named) = refl
-takes_zero looped (tree_find named) = refl
-takes_zero looped (tree_next named) = refl
-takes_zero looped (queue_insert named) = refl
+takes_zero : (looped : Bool) (op : Operator) → takes op looped (Number (Some 0)) ≡ true
+takes_zero looped operator.Work = refl
+takes_zero looped (operator.Call verb object) = refl
 
 -- a step by the argument 0
-pub added_zero : {words : List Word} {blocks : List OpenBlock} {items : Items} (given : Option Name) (op : UnaryOp) → IsReached words (at blocks items (an_argument given op)) →
-    IsReached (words ++ Number (Some 0) ∷ []) (with_leaf blocks items (given_leaf given (with_argument op (Number (Some 0)))))
+pub added_zero : {words : List Word} {blocks : List OpenBlock} {items : Items} (given : Option Name) (op : Operator) → IsReached words (at blocks items (an_argument given op)) →
+    IsReached (words ++ Number (Some 0) ∷ []) (with_leaf blocks items (given_leaf given (with_operand op (Number (Some 0)))))
 added_zero {words} {blocks} {items} given op reached =
-    added (given_leaf given (with_argument op (Number (Some 0)))) (Number (Some 0)) reached (given_argument given op (Number (Some 0)))
+    added (given_leaf given (with_operand op (Number (Some 0)))) (Number (Some 0)) reached (given_argument given op (Number (Some 0)))
     (fits_given (are_looped blocks) given op (Number (Some 0)) reached.place (takes_zero (are_looped blocks) op))
 
 reach_let_name : (words : List Word) (blocks : List OpenBlock) (items : Items) (last : Word) → IsReached words (at blocks items a_let_name) →
@@ -98,11 +97,8 @@ reach_equals words blocks items name _ reached = tt
 
 reach_object : (words : List Word) (blocks : List OpenBlock) (items : Items) (name : Name) (last : Word) → IsReached words (at blocks items (a_let_object name)) →
     IfSome (object_step blocks items name (object_of last)) (IsReached (words ++ last ∷ []))
-reach_object words blocks items name (Counter named) reached = moved (a_call (Some name) (object.Counter named)) (Counter named) reached refl tt
-reach_object words blocks items name (Stack named) reached = moved (a_call (Some name) (object.Stack named)) (Stack named) reached refl tt
-reach_object words blocks items name (Tree named) reached = moved (a_call (Some name) (object.Tree named)) (Tree named) reached refl tt
-reach_object words blocks items name (Queue named) reached = moved (a_call (Some name) (object.Queue named)) (Queue named) reached refl tt
-reach_object words blocks items name _ reached = tt
+reach_object words blocks items given (word.Object kind name) reached = moved (a_call (Some given) (record { kind = kind; name = name })) (word.Object kind name) reached refl tt
+reach_object words blocks items given _ reached = tt
 
 reach_for : (words : List Word) (blocks : List OpenBlock) (items : Items) (last : Word) → IsReached words (at blocks items for_copies) →
     (b : Bool) → is_number last ≡ b →
@@ -116,32 +112,6 @@ reach_pfor : (words : List Word) (blocks : List OpenBlock) (items : Items) (last
 reach_pfor words blocks items last reached false e = tt
 reach_pfor words blocks items last reached true e = moved (a_brace (pfor_loop last)) last reached refl e
 
--- the words of a call, and what it needs to fit, also behind a `let`
-abbrev call_words : ParsedCall → List Word
-call_words (unary op) = unary_op_words op
-call_words (whole leaf) = leaf_words leaf
-
-abbrev FitsCall : Bool → ParsedCall → Type 0
-FitsCall looped (unary op) = (given : Option Name) → IsGiven given op
-FitsCall looped (whole leaf) = IsLeaf looped leaf × IsCall looped leaf
-
-given_call : (op : UnaryOp) → ((name : Name) → IsGiven (Some name) op) → (given : Option Name) → IsGiven given op
-given_call op h None = tt
-given_call op h (Some name) = h name
-
-written_call : (looped : Bool) (of : Object) (last : Word) →
-    IfSome (call_behind of last) (λ call. (object_words of ++ last ∷ [] ≡ call_words call) × FitsCall looped call)
-written_call looped (object.Counter named) Add = (refl, given_call (counter_add named) (λ name. tt))
-written_call looped (object.Stack named) Push = (refl, given_call (stack_push named) (λ name. tt))
-written_call looped (object.Stack named) Pop = (refl, (tt, tt))
-written_call looped (object.Tree named) Insert = (refl, given_call (tree_insert named) (λ name. tt))
-written_call looped (object.Tree named) Remove = (refl, given_call (tree_remove named) (λ name. tt))
-written_call looped (object.Tree named) Find = (refl, given_call (tree_find named) (λ name. tt))
-written_call looped (object.Tree named) Next = (refl, given_call (tree_next named) (λ name. tt))
-written_call looped (object.Queue named) Insert = (refl, given_call (queue_insert named) (λ name. tt))
-written_call looped (object.Queue named) Take = (refl, (tt, tt))
-written_call looped _ _ = tt
-
 behind_given : (given : Option Name) (of : Object) (last : Word) (words : List Word) → object_words of ++ last ∷ [] ≡ words → place_words (a_call given of) ++ last ∷ [] ≡ given_words given ++ words
 behind_given None of last words e = e
 behind_given (Some name) of last words e = ap (λ ws. Let ∷ Named name ∷ Equals ∷ ws) e
@@ -150,18 +120,24 @@ given_whole : (given : Option Name) (leaf : Leaf) → given_words given ++ leaf_
 given_whole None leaf = refl
 given_whole (Some name) leaf = refl
 
-fits_whole : (looped : Bool) (given : Option Name) (leaf : Leaf) → IsLeaf looped leaf → IsCall looped leaf → IsLeaf looped (given_leaf given leaf)
-fits_whole looped None leaf fits call = fits
-fits_whole looped (Some name) leaf fits call = call
+-- the words of a call up to its verb
+spelled_call : (of : Object) (last : Word) (verb : Verb) → verb_behind of.kind last ≡ Some verb → object_words of ++ last ∷ [] ≡ operator_words (operator.Call verb of.name)
+spelled_call of (word.Verb spelled) verb e = let is = verb_has_parts of.kind spelled verb e in λ i. word.Object (sym is.0 i) of.name ∷ word.Verb (sym is.1 i) ∷ []
+spelled_call of _ verb e = cc
+
+pub reach_verb : {words : List Word} {blocks : List OpenBlock} {items : Items} (given : Option Name) (of : Object) (last : Word) (verb : Verb) → IsReached words (at blocks items (a_call given of)) →
+    object_words of ++ last ∷ [] ≡ operator_words (operator.Call verb of.name) → (carries : Bool) → takes_argument verb ≡ carries →
+    IsReached (words ++ last ∷ []) (if carries then at blocks items (an_argument given (operator.Call verb of.name)) else with_leaf blocks items (given_leaf given (call verb of.name None)))
+reach_verb {words} {blocks} {items} given of last verb reached written true e =
+    moved (an_argument given (operator.Call verb of.name)) last reached (behind_given given of last (operator_words (operator.Call verb of.name)) written) e
+reach_verb {words} {blocks} {items} given of last verb reached written false e =
+    added (given_leaf given (call verb of.name None)) last reached (behind_given given of last (operator_words (operator.Call verb of.name)) written ∙ given_whole given (call verb of.name None))
+    (fits_call (are_looped blocks) given verb of.name None false e tt)
 
 reach_call : (words : List Word) (blocks : List OpenBlock) (items : Items) (given : Option Name) (of : Object) (last : Word) → IsReached words (at blocks items (a_call given of)) →
-    (found : Option ParsedCall) → IfSome found (λ call. (object_words of ++ last ∷ [] ≡ call_words call) × FitsCall (are_looped blocks) call) →
-    IfSome (call_step blocks items given found) (IsReached (words ++ last ∷ []))
-reach_call words blocks items given of last reached None written = tt
-reach_call words blocks items given of last reached (Some (unary op)) written =
-    moved (an_argument given op) last reached (behind_given given of last (unary_op_words op) written.0) (written.1 given)
-reach_call words blocks items given of last reached (Some (whole leaf)) written =
-    added (given_leaf given leaf) last reached (behind_given given of last (leaf_words leaf) written.0 ∙ given_whole given leaf) (fits_whole (are_looped blocks) given leaf written.1.0 written.1.1)
+    (found : Option Verb) → verb_behind of.kind last ≡ found → IfSome (call_step blocks items given of.name found) (IsReached (words ++ last ∷ []))
+reach_call words blocks items given of last reached None e = tt
+reach_call words blocks items given of last reached (Some verb) e = reach_verb given of last verb reached (spelled_call of last verb e) (takes_argument verb) refl
 
 pub reach_brace : {words : List Word} {blocks : List OpenBlock} {items : Items} (kind : BlockKind) → IsReached words (at blocks items (a_brace kind)) →
     IsReached (words ++ Open ∷ []) (after_open blocks items kind)
@@ -185,11 +161,8 @@ reach_item : (words : List Word) (blocks : List OpenBlock) (items : Items) (last
     IfSome (item_step blocks items last) (IsReached (words ++ last ∷ []))
 reach_item words [] items Close reached = tt
 reach_item words (block ∷ blocks) items Close reached = reach_close block blocks items reached
-reach_item words blocks items Work reached = moved (an_argument None work) Work reached refl tt
-reach_item words blocks items (Counter named) reached = moved (a_call None (object.Counter named)) (Counter named) reached refl tt
-reach_item words blocks items (Stack named) reached = moved (a_call None (object.Stack named)) (Stack named) reached refl tt
-reach_item words blocks items (Tree named) reached = moved (a_call None (object.Tree named)) (Tree named) reached refl tt
-reach_item words blocks items (Queue named) reached = moved (a_call None (object.Queue named)) (Queue named) reached refl tt
+reach_item words blocks items Work reached = moved (an_argument None operator.Work) Work reached refl tt
+reach_item words blocks items (word.Object kind name) reached = moved (a_call None (record { kind = kind; name = name })) (word.Object kind name) reached refl tt
 reach_item words blocks items Let reached = moved a_let_name Let reached refl tt
 reach_item words blocks items Seq reached = moved (a_brace seq_block) Seq reached refl tt
 reach_item words blocks items Par reached = moved (a_brace par_block) Par reached refl tt
@@ -205,7 +178,7 @@ reach words blocks items a_let_name last reached = reach_let_name words blocks i
 reach words blocks items (an_equals name) last reached = reach_equals words blocks items name last reached
 reach words blocks items (a_let_object name) last reached = reach_object words blocks items name last reached
 reach words blocks items (an_argument given op) last reached = reach_argument words blocks items given op last reached _ refl
-reach words blocks items (a_call given of) last reached = reach_call words blocks items given of last reached (call_behind of last) (written_call (are_looped blocks) of last)
+reach words blocks items (a_call given of) last reached = reach_call words blocks items given of last reached (verb_behind of.kind last) refl
 reach words blocks items for_copies last reached = reach_for words blocks items last reached _ refl
 reach words blocks items pfor_copies last reached = reach_pfor words blocks items last reached _ refl
 reach words blocks items (a_brace kind) Open reached = reach_brace kind reached

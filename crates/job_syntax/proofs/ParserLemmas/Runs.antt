@@ -1,12 +1,17 @@
 -- The machine's run on words that the grammar derives.
-use Rattle.std.proofs.Common.{◌≡◌, List, [], ◌∷◌, ◌++◌, Option, Some, None, refl, sym, ap, ◌∙◌, append_assoc, append-nil}
+use Rattle.std.proofs.Common.{◌≡◌, List, [], ◌∷◌, ◌++◌, Bool, true, false, Option, Some, None, refl, sym, ap, ◌∙◌, append_assoc, append-nil}
 use Rattle.std.specs.Prelude.{option_and_then, map}
 use Rattle.job_syntax.specs.declared.lexer.word.Word.{Word}
 use Rattle.job_syntax.specs.declared.lexer.word.Word.TheVariants.{Open, Close}
 use Rattle.job_syntax.specs.Words.{word_of}
-use Rattle.job_syntax.specs.Grammar.{Items, nothing, leaf_then, block_then, ◌then◌, BlockKind, seq_block, par_block, for_loop, pfor_loop, Leaf, with_argument, stack_pop, queue_take, bound, work, counter_add, stack_push, tree_insert, tree_remove, tree_find, tree_next, queue_insert, IsLeaf, IsBlockKind, AreItems, Derives, CanGoOn, items_words, leaf_words, kind_words}
+use Rattle.job_syntax.specs.Grammar.{Items, nothing, leaf_then, block_then, ◌then◌, BlockKind, seq_block, par_block, for_loop, pfor_loop, Leaf, work, call, bound, FitsVerb, IsLeaf, IsBlockKind, AreItems, Derives, CanGoOn, items_words, leaf_words, kind_words}
 use Rattle.job_syntax.proofs.ParserLemmas.Derivations.{then_assoc, then_nothing}
-use Rattle.job_syntax.specs.Code.Machine.{OpenBlock, an_item, State, at, start, are_looped, with_leaf, after_open, step, run}
+use Rattle.job_syntax.specs.Code.Machine.{OpenBlock, an_item, State, at, start, are_looped, given_leaf, with_leaf, after_open, call_step, step, run}
+use Rattle.job_names.specs.declared.name.Name.{Name}
+use Rattle.seq_objects.specs.declared.verb.Verb.{Verb}
+use Rattle.seq_objects.specs.Verbs.{takes_argument}
+use Rattle.std.specs.Option.{option_to_list}
+use Rattle.seq_objects.proofs.Verbs.{verb_found}
 
 -- a run over two lists is a run over one and then the other
 pub run-append : (state : Option State) (a b : List Word) → run state (a ++ b) ≡ run (run state a) b
@@ -18,30 +23,26 @@ pub run-none : (words : List Word) → run None words ≡ None
 run-none [] = refl
 run-none (first ∷ words) = run-none words
 
+-- what stands behind the verb of a call leads to the state with the call
+run_behind : (blocks : List OpenBlock) (items : Items) (given object : Option Name) (verb : Verb) (takes : Bool) (argument : Option Word) (words : List Word) → takes_argument verb ≡ takes → FitsVerb (are_looped blocks) takes argument →
+    run (call_step blocks items given object (Some verb)) (option_to_list argument ++ words) ≡ run (Some (with_leaf blocks items (given_leaf given (call verb object argument)))) words
+run_behind blocks items given object verb true (Some argument) words e fits = rw (e, fits) refl
+run_behind blocks items given object verb false None words e fits = rw e refl
+run_behind blocks items given object verb true None words e fits = elim fits [ ]
+run_behind blocks items given object verb false (Some argument) words e fits = elim fits [ ]
+
 -- the words of a leaf lead to the state with that leaf
 run_leaf : (blocks : List OpenBlock) (items : Items) (leaf : Leaf) (words : List Word) → IsLeaf (are_looped blocks) leaf →
     run (Some (at blocks items an_item)) (leaf_words leaf ++ words) ≡ run (Some (with_leaf blocks items leaf)) words
-run_leaf blocks items (with_argument work argument) words fits = rw fits refl
-run_leaf blocks items (with_argument (counter_add named) argument) words fits = rw fits refl
-run_leaf blocks items (with_argument (stack_push named) argument) words fits = rw fits refl
-run_leaf blocks items (with_argument (tree_insert named) argument) words fits = rw fits refl
-run_leaf blocks items (with_argument (tree_remove named) argument) words fits = rw fits refl
-run_leaf blocks items (with_argument (tree_find named) argument) words fits = rw fits refl
-run_leaf blocks items (with_argument (tree_next named) argument) words fits = rw fits refl
-run_leaf blocks items (with_argument (queue_insert named) argument) words fits = rw fits refl
-run_leaf blocks items (stack_pop named) words fits = refl
-run_leaf blocks items (queue_take named) words fits = refl
-run_leaf blocks items (bound name (with_argument work argument)) words fits = elim fits [ ]
-run_leaf blocks items (bound name (with_argument (counter_add named) argument)) words fits = rw fits refl
-run_leaf blocks items (bound name (with_argument (stack_push named) argument)) words fits = rw fits refl
-run_leaf blocks items (bound name (with_argument (tree_insert named) argument)) words fits = rw fits refl
-run_leaf blocks items (bound name (with_argument (tree_remove named) argument)) words fits = rw fits refl
-run_leaf blocks items (bound name (with_argument (tree_find named) argument)) words fits = rw fits refl
-run_leaf blocks items (bound name (with_argument (tree_next named) argument)) words fits = rw fits refl
-run_leaf blocks items (bound name (with_argument (queue_insert named) argument)) words fits = rw fits refl
-run_leaf blocks items (bound name (stack_pop named)) words fits = refl
-run_leaf blocks items (bound name (queue_take named)) words fits = refl
-run_leaf blocks items (bound name (bound other call)) words fits = elim fits [ ]
+run_leaf blocks items (work argument) words fits = rw fits refl
+run_leaf blocks items (call verb object argument) words fits =
+    ap (λ found. run (call_step blocks items None object found) (option_to_list argument ++ words)) (verb_found verb)
+    ∙ run_behind blocks items None object verb (takes_argument verb) argument words refl fits
+run_leaf blocks items (bound name (call verb object argument)) words fits =
+    ap (λ found. run (call_step blocks items (Some name) object found) (option_to_list argument ++ words)) (verb_found verb)
+    ∙ run_behind blocks items (Some name) object verb (takes_argument verb) argument words refl fits
+run_leaf blocks items (bound name (work argument)) words fits = elim fits [ ]
+run_leaf blocks items (bound name (bound other leaf)) words fits = elim fits [ ]
 
 -- the words that open a block lead to the state inside it
 run_kind : (blocks : List OpenBlock) (items : Items) (kind : BlockKind) (words : List Word) → IsBlockKind kind →

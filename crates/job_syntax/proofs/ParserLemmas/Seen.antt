@@ -1,15 +1,23 @@
 -- A let that is visible by the three conditions is seen behind the front.
-use Rattle.std.proofs.Common.{ℕ, ◌≡◌, ◌≢◌, ◌+◌, ◌⊎◌, inl, inr, Bool, true, false, not, Option, Some, None, List, [], ◌∷◌, ◌++◌, length, length-append as length_append, take, drop, map, arith, refl, sym, ap, ◌∙◌, append_assoc, append-nil, subst}
+use Rattle.std.proofs.Common.{ℕ, ◌≡◌, ◌≢◌, ◌+◌, ◌⊎◌, inl, inr, Bool, true, false, not, Option, Some, None, List, [], ◌∷◌, ◌++◌, length, length-append as length_append, take, drop, map, arith, refl, sym, ap, ◌∙◌, append_assoc, append-nil, subst, true≢false}
 use Rattle.std.specs.Prelude.{if◌then◌else◌, IsTrue}
 use Rattle.std.specs.List.{AllByRecursion}
 use Rattle.job_names.specs.declared.name.Name.{Name}
 use Rattle.job_names.specs.declared.scopes.Let.{Let as NamedLet}
 use Rattle.job_syntax.specs.declared.lexer.word.Word.{Word}
-use Rattle.job_syntax.specs.declared.lexer.word.Word.TheVariants.{Open, Close, Let, Equals, Number, Copies, Named}
-use Rattle.job_syntax.specs.Grammar.{UnaryOp, work, counter_add, stack_push, tree_insert, tree_remove, tree_find, tree_next, queue_insert, Leaf, with_argument, stack_pop, queue_take, bound, BlockKind, seq_block, par_block, for_loop, pfor_loop, Items, nothing, leaf_then, block_then, unary_op_words, leaf_words, kind_words, items_words, is_number, is_argument, is_call_argument, is_loop, is_par, IsCall, IsLeaf, IsBlockKind}
+use Rattle.job_syntax.specs.declared.lexer.word.Word.TheVariants.{Open, Close, Let, Equals, Number, Named}
+use Rattle.job_syntax.specs.Grammar as grammar
+use Rattle.job_syntax.specs.Grammar.{Leaf, work, bound, BlockKind, seq_block, par_block, for_loop, pfor_loop, Items, nothing, leaf_then, block_then, leaf_words, kind_words, items_words, is_number, is_loop, is_par, FitsVerb, IsCall, IsLeaf, IsBlockKind}
+use Rattle.job_syntax.specs.declared.parser.call.Operator.{Operator}
+use Rattle.job_syntax.specs.declared.parser.call.Operator.TheVariants as operator
+use Rattle.seq_objects.specs.declared.verb.Verb.{Verb}
+use Rattle.seq_objects.specs.Verbs.{kind_of_verb, word_of_verb, takes_argument, verb_by}
+use Rattle.job_syntax.specs.Code.Machine.{operator_words}
 use Rattle.job_syntax.specs.Visibility.{blocks_behind, closed_by, is_in_series, Sees}
 use Rattle.job_syntax.specs.Code.Shown.{OpenBlock}
-use Rattle.job_syntax.specs.Code.Reached.{opening_words, given_words}
+use Rattle.job_syntax.specs.Code.Reached.{opening_words, given_words, IsGiven}
+use Rattle.seq_objects.proofs.Verbs.{verb_found}
+use Rattle.job_syntax.proofs.ParserLemmas.Plain.{is_plain, ArePlain, plain_argument, plain_operator, plain_call}
 use Rattle.job_syntax.proofs.ParserLemmas.NamesSeen.{AreFlat, AreFlatBlocks}
 use Rattle.job_syntax.proofs.ParserLemmas.LetsSeen.{HasLet, lets_of, lets_behind, lets_seen, lets_left, lets_right}
 use Rattle.job_syntax.proofs.ParserLemmas.Visible.{closed_call, closed_items, open_items, open_leaf, open_kind, open_opening, take_inside, drop_inside, closed_opening}
@@ -34,49 +42,18 @@ past (w ∷ words) (f ∷ front) tail rest none e =
     let b = past words front tail rest none.1 more in
     record { left = b.left; is = λ i. first i ∷ b.is i; stands = b.stands }
 
-no_let_argument : (w : Word) → IsTrue (is_argument true w) → w ≢ Let
-no_let_argument (Number n) is e = cc
-no_let_argument (Copies n) is e = cc
-no_let_argument _ is e = cc
+no_let_word : (w : Word) → IsTrue (is_plain w) → w ≢ Let
+no_let_word w plain e = true≢false (sym plain ∙ ap is_plain e)
 
-no_let_value : (w : Word) → IsTrue (is_call_argument true w) → w ≢ Let
-no_let_value (Number n) is e = cc
-no_let_value (Copies n) is e = cc
-no_let_value (Named n) is e = cc
-no_let_value _ is e = cc
+no_let_plain : (words : List Word) → ArePlain words → NoLet words
+no_let_plain [] plain = tt
+no_let_plain (w ∷ words) plain = (no_let_word w plain.0, no_let_plain words plain.1)
 
-no_let_op : (op : UnaryOp) (rest : List Word) → NoLet rest → NoLet (unary_op_words op ++ rest)
-no_let_op work rest h = ((λ e. cc), h)
-no_let_op (counter_add named) rest h = ((λ e. cc), ((λ e. cc), h))
-no_let_op (stack_push named) rest h = ((λ e. cc), ((λ e. cc), h))
-no_let_op (tree_insert named) rest h = ((λ e. cc), ((λ e. cc), h))
-no_let_op (tree_remove named) rest h = ((λ e. cc), ((λ e. cc), h))
-no_let_op (tree_find named) rest h = ((λ e. cc), ((λ e. cc), h))
-no_let_op (tree_next named) rest h = ((λ e. cc), ((λ e. cc), h))
-no_let_op (queue_insert named) rest h = ((λ e. cc), ((λ e. cc), h))
+no_let_call : (leaf : Leaf) → IsCall true leaf → NoLet (leaf_words leaf)
+no_let_call leaf is = no_let_plain (leaf_words leaf) (plain_call true leaf is)
 
-no_let_call : (call : Leaf) → IsCall true call → NoLet (leaf_words call)
-no_let_call (with_argument work w) is = elim is [ ]
-no_let_call (with_argument (counter_add named) w) is = ((λ e. cc), ((λ e. cc), (no_let_value w is, tt)))
-no_let_call (with_argument (stack_push named) w) is = ((λ e. cc), ((λ e. cc), (no_let_value w is, tt)))
-no_let_call (with_argument (tree_insert named) w) is = ((λ e. cc), ((λ e. cc), (no_let_value w is, tt)))
-no_let_call (with_argument (tree_remove named) w) is = ((λ e. cc), ((λ e. cc), (no_let_value w is, tt)))
-no_let_call (with_argument (tree_find named) w) is = ((λ e. cc), ((λ e. cc), (no_let_value w is, tt)))
-no_let_call (with_argument (tree_next named) w) is = ((λ e. cc), ((λ e. cc), (no_let_value w is, tt)))
-no_let_call (with_argument (queue_insert named) w) is = ((λ e. cc), ((λ e. cc), (no_let_value w is, tt)))
-no_let_call (stack_pop named) is = ((λ e. cc), ((λ e. cc), tt))
-no_let_call (queue_take named) is = ((λ e. cc), ((λ e. cc), tt))
-no_let_call (bound name call) is = elim is [ ]
-
-no_let_taken : (op : UnaryOp) (w : Word) → IsLeaf true (with_argument op w) → NoLet (leaf_words (with_argument op w))
-no_let_taken work w is = ((λ e. cc), (no_let_argument w is, tt))
-no_let_taken (counter_add named) w is = ((λ e. cc), ((λ e. cc), (no_let_value w is, tt)))
-no_let_taken (stack_push named) w is = ((λ e. cc), ((λ e. cc), (no_let_value w is, tt)))
-no_let_taken (tree_insert named) w is = ((λ e. cc), ((λ e. cc), (no_let_value w is, tt)))
-no_let_taken (tree_remove named) w is = ((λ e. cc), ((λ e. cc), (no_let_value w is, tt)))
-no_let_taken (tree_find named) w is = ((λ e. cc), ((λ e. cc), (no_let_value w is, tt)))
-no_let_taken (tree_next named) w is = ((λ e. cc), ((λ e. cc), (no_let_value w is, tt)))
-no_let_taken (queue_insert named) w is = ((λ e. cc), ((λ e. cc), (no_let_value w is, tt)))
+no_let_work : (argument : Word) → IsLeaf true (work argument) → NoLet (leaf_words (work argument))
+no_let_work argument is = ((λ e. cc), (no_let_word argument (plain_argument true argument is), tt))
 
 no_let_number : (copies : Word) → IsTrue (is_number copies) → copies ≢ Let
 no_let_number (Number n) is e = cc
@@ -106,12 +83,10 @@ Found at items name front call behind rest =
 first_leaf : (at : ℕ) (leaf : Leaf) (more : Items) (name : Name) (front : List Word) (call : Leaf) (behind rest : List Word) → IsLeaf true leaf → AreFlat more → IsCall true call
     → front ++ (leaf_words (bound name call) ++ behind) ≡ leaf_words leaf ++ (items_words more ++ rest)
     → Inside at (leaf_then leaf more) name front behind rest ⊎ Behind front (leaf_words (bound name call) ++ behind) (items_words more ++ rest) (leaf_words leaf)
-first_leaf at (with_argument op w) more name front call behind rest is are whole e =
-    inr (past (leaf_words (with_argument op w)) front (Named name ∷ Equals ∷ (leaf_words call ++ behind)) (items_words more ++ rest) (no_let_taken op w is) e)
-first_leaf at (stack_pop named) more name front call behind rest is are whole e =
-    inr (past (leaf_words (stack_pop named)) front (Named name ∷ Equals ∷ (leaf_words call ++ behind)) (items_words more ++ rest) (no_let_call (stack_pop named) tt) e)
-first_leaf at (queue_take named) more name front call behind rest is are whole e =
-    inr (past (leaf_words (queue_take named)) front (Named name ∷ Equals ∷ (leaf_words call ++ behind)) (items_words more ++ rest) (no_let_call (queue_take named) tt) e)
+first_leaf at (work argument) more name front call behind rest is are whole e =
+    inr (past (leaf_words (work argument)) front (Named name ∷ Equals ∷ (leaf_words call ++ behind)) (items_words more ++ rest) (no_let_work argument is) e)
+first_leaf at (grammar.call verb object argument) more name front seen behind rest is are whole e =
+    inr (past (leaf_words (grammar.call verb object argument)) front (Named name ∷ Equals ∷ (leaf_words seen ++ behind)) (items_words more ++ rest) (no_let_call (grammar.call verb object argument) is) e)
 first_leaf at (bound given other) more name [] call behind rest is are whole e =
     let same : given ≡ name = cc in
     let left : leaf_words call ++ behind ≡ leaf_words other ++ (items_words more ++ rest) = cc in
@@ -286,20 +261,14 @@ visible_in (block ∷ blocks) items name front call behind tail is are whole non
     ]
 
 -- the words of an item up to the place of an argument
-abbrev pub begun_words : Option Name → UnaryOp → List Word
-begun_words given op = given_words given ++ unary_op_words op
+abbrev pub begun_words : Option Name → Operator → List Word
+begun_words given op = given_words given ++ operator_words op
 
-op_closes : (op : UnaryOp) → closed_by (unary_op_words op) ≡ 0
-op_closes work = refl
-op_closes (counter_add named) = refl
-op_closes (stack_push named) = refl
-op_closes (tree_insert named) = refl
-op_closes (tree_remove named) = refl
-op_closes (tree_find named) = refl
-op_closes (tree_next named) = refl
-op_closes (queue_insert named) = refl
+op_closes : (op : Operator) → closed_by (operator_words op) ≡ 0
+op_closes operator.Work = refl
+op_closes (operator.Call verb object) = refl
 
-pub begun_closes : (given : Option Name) (op : UnaryOp) → closed_by (begun_words given op) ≡ 0
+pub begun_closes : (given : Option Name) (op : Operator) → closed_by (begun_words given op) ≡ 0
 begun_closes None op = op_closes op
 begun_closes (Some name) op = op_closes op
 
@@ -311,99 +280,40 @@ no_let_words : (words : List Word) → NoLet words → (left tail : List Word) �
 no_let_words words none left tail e =
     let b = past words left tail [] none (e ∙ sym (append-nil words)) in nothing_left b.left tail b.stands
 
-op_no_let : (op : UnaryOp) → NoLet (unary_op_words op)
-op_no_let op = subst NoLet (append-nil (unary_op_words op)) (no_let_op op [] tt)
+op_no_let : (op : Operator) → NoLet (operator_words op)
+op_no_let op = no_let_plain (operator_words op) (plain_operator op)
 
--- the words of a call are more than those of an operation without its argument
-call_is_whole : (call : Leaf) (behind : List Word) (op : UnaryOp) → IsCall true call → leaf_words call ++ behind ≡ unary_op_words op → ⊥
-call_is_whole (with_argument work w) behind op is e = elim is [ ]
-call_is_whole (with_argument (counter_add named) w) behind work is e = cc
-call_is_whole (with_argument (counter_add named) w) behind (counter_add other) is e = cc
-call_is_whole (with_argument (counter_add named) w) behind (stack_push other) is e = cc
-call_is_whole (with_argument (counter_add named) w) behind (tree_insert other) is e = cc
-call_is_whole (with_argument (counter_add named) w) behind (tree_remove other) is e = cc
-call_is_whole (with_argument (counter_add named) w) behind (tree_find other) is e = cc
-call_is_whole (with_argument (counter_add named) w) behind (tree_next other) is e = cc
-call_is_whole (with_argument (counter_add named) w) behind (queue_insert other) is e = cc
-call_is_whole (with_argument (stack_push named) w) behind work is e = cc
-call_is_whole (with_argument (stack_push named) w) behind (counter_add other) is e = cc
-call_is_whole (with_argument (stack_push named) w) behind (stack_push other) is e = cc
-call_is_whole (with_argument (stack_push named) w) behind (tree_insert other) is e = cc
-call_is_whole (with_argument (stack_push named) w) behind (tree_remove other) is e = cc
-call_is_whole (with_argument (stack_push named) w) behind (tree_find other) is e = cc
-call_is_whole (with_argument (stack_push named) w) behind (tree_next other) is e = cc
-call_is_whole (with_argument (stack_push named) w) behind (queue_insert other) is e = cc
-call_is_whole (with_argument (tree_insert named) w) behind work is e = cc
-call_is_whole (with_argument (tree_insert named) w) behind (counter_add other) is e = cc
-call_is_whole (with_argument (tree_insert named) w) behind (stack_push other) is e = cc
-call_is_whole (with_argument (tree_insert named) w) behind (tree_insert other) is e = cc
-call_is_whole (with_argument (tree_insert named) w) behind (tree_remove other) is e = cc
-call_is_whole (with_argument (tree_insert named) w) behind (tree_find other) is e = cc
-call_is_whole (with_argument (tree_insert named) w) behind (tree_next other) is e = cc
-call_is_whole (with_argument (tree_insert named) w) behind (queue_insert other) is e = cc
-call_is_whole (with_argument (tree_remove named) w) behind work is e = cc
-call_is_whole (with_argument (tree_remove named) w) behind (counter_add other) is e = cc
-call_is_whole (with_argument (tree_remove named) w) behind (stack_push other) is e = cc
-call_is_whole (with_argument (tree_remove named) w) behind (tree_insert other) is e = cc
-call_is_whole (with_argument (tree_remove named) w) behind (tree_remove other) is e = cc
-call_is_whole (with_argument (tree_remove named) w) behind (tree_find other) is e = cc
-call_is_whole (with_argument (tree_remove named) w) behind (tree_next other) is e = cc
-call_is_whole (with_argument (tree_remove named) w) behind (queue_insert other) is e = cc
-call_is_whole (with_argument (tree_find named) w) behind work is e = cc
-call_is_whole (with_argument (tree_find named) w) behind (counter_add other) is e = cc
-call_is_whole (with_argument (tree_find named) w) behind (stack_push other) is e = cc
-call_is_whole (with_argument (tree_find named) w) behind (tree_insert other) is e = cc
-call_is_whole (with_argument (tree_find named) w) behind (tree_remove other) is e = cc
-call_is_whole (with_argument (tree_find named) w) behind (tree_find other) is e = cc
-call_is_whole (with_argument (tree_find named) w) behind (tree_next other) is e = cc
-call_is_whole (with_argument (tree_find named) w) behind (queue_insert other) is e = cc
-call_is_whole (with_argument (tree_next named) w) behind work is e = cc
-call_is_whole (with_argument (tree_next named) w) behind (counter_add other) is e = cc
-call_is_whole (with_argument (tree_next named) w) behind (stack_push other) is e = cc
-call_is_whole (with_argument (tree_next named) w) behind (tree_insert other) is e = cc
-call_is_whole (with_argument (tree_next named) w) behind (tree_remove other) is e = cc
-call_is_whole (with_argument (tree_next named) w) behind (tree_find other) is e = cc
-call_is_whole (with_argument (tree_next named) w) behind (tree_next other) is e = cc
-call_is_whole (with_argument (tree_next named) w) behind (queue_insert other) is e = cc
-call_is_whole (with_argument (queue_insert named) w) behind work is e = cc
-call_is_whole (with_argument (queue_insert named) w) behind (counter_add other) is e = cc
-call_is_whole (with_argument (queue_insert named) w) behind (stack_push other) is e = cc
-call_is_whole (with_argument (queue_insert named) w) behind (tree_insert other) is e = cc
-call_is_whole (with_argument (queue_insert named) w) behind (tree_remove other) is e = cc
-call_is_whole (with_argument (queue_insert named) w) behind (tree_find other) is e = cc
-call_is_whole (with_argument (queue_insert named) w) behind (tree_next other) is e = cc
-call_is_whole (with_argument (queue_insert named) w) behind (queue_insert other) is e = cc
-call_is_whole (stack_pop named) behind work is e = cc
-call_is_whole (stack_pop named) behind (counter_add other) is e = cc
-call_is_whole (stack_pop named) behind (stack_push other) is e = cc
-call_is_whole (stack_pop named) behind (tree_insert other) is e = cc
-call_is_whole (stack_pop named) behind (tree_remove other) is e = cc
-call_is_whole (stack_pop named) behind (tree_find other) is e = cc
-call_is_whole (stack_pop named) behind (tree_next other) is e = cc
-call_is_whole (stack_pop named) behind (queue_insert other) is e = cc
-call_is_whole (queue_take named) behind work is e = cc
-call_is_whole (queue_take named) behind (counter_add other) is e = cc
-call_is_whole (queue_take named) behind (stack_push other) is e = cc
-call_is_whole (queue_take named) behind (tree_insert other) is e = cc
-call_is_whole (queue_take named) behind (tree_remove other) is e = cc
-call_is_whole (queue_take named) behind (tree_find other) is e = cc
-call_is_whole (queue_take named) behind (tree_next other) is e = cc
-call_is_whole (queue_take named) behind (queue_insert other) is e = cc
-call_is_whole (bound name call) behind op is e = elim is [ ]
+-- verbs of one kind with one word are one
+one_verb : (a b : Verb) → kind_of_verb a ≡ kind_of_verb b → word_of_verb a ≡ word_of_verb b → a ≡ b
+one_verb a b kinds words =
+    let found : verb_by (kind_of_verb a) (word_of_verb a) ≡ verb_by (kind_of_verb b) (word_of_verb b) = λ i. verb_by (kinds i) (words i) in
+    let same : Some a ≡ Some b = sym (verb_found a) ∙ found ∙ verb_found b in
+    cc same
+
+-- the words of a call are more than those before its argument
+call_is_whole : (leaf : Leaf) (behind : List Word) (name : Name) (op : Operator) → IsCall true leaf → IsGiven (Some name) op → leaf_words leaf ++ behind ≡ operator_words op → ⊥
+call_is_whole leaf behind name operator.Work is given e = elim given [ ]
+call_is_whole (grammar.call verb object (Some argument)) behind name (operator.Call other named) is given e = cc
+call_is_whole (grammar.call verb object None) behind name (operator.Call other named) is given e =
+    let kinds : kind_of_verb verb ≡ kind_of_verb other = cc in
+    let words : word_of_verb verb ≡ word_of_verb other = cc in
+    subst (λ takes. FitsVerb true takes None) (ap takes_argument (one_verb verb other kinds words) ∙ given) is
+call_is_whole (work argument) behind name op is given e = elim is [ ]
+call_is_whole (bound other leaf) behind name op is given e = elim is [ ]
 
 -- no whole let stands in what is begun
-none_in_begun : (given : Option Name) (op : UnaryOp) (name : Name) (left : List Word) (call : Leaf) (behind : List Word) → IsCall true call → left ++ (leaf_words (bound name call) ++ behind) ≡ begun_words given op → ⊥
-none_in_begun None op name left call behind whole e = no_let_words (unary_op_words op) (op_no_let op) left (Named name ∷ Equals ∷ (leaf_words call ++ behind)) e
-none_in_begun (Some given) op name [] call behind whole e = let tail : leaf_words call ++ behind ≡ unary_op_words op = cc in call_is_whole call behind op whole tail
-none_in_begun (Some given) op name (w ∷ left) call behind whole e =
-    let tail : left ++ (Let ∷ (Named name ∷ Equals ∷ (leaf_words call ++ behind))) ≡ Named given ∷ Equals ∷ unary_op_words op = cc in
-    no_let_words (Named given ∷ Equals ∷ unary_op_words op) ((λ e. cc), ((λ e. cc), op_no_let op)) left (Named name ∷ Equals ∷ (leaf_words call ++ behind)) tail
+none_in_begun : (given : Option Name) (op : Operator) (name : Name) (left : List Word) (leaf : Leaf) (behind : List Word) → IsGiven given op → IsCall true leaf → left ++ (leaf_words (bound name leaf) ++ behind) ≡ begun_words given op → ⊥
+none_in_begun None op name left leaf behind is whole e = no_let_words (operator_words op) (op_no_let op) left (Named name ∷ Equals ∷ (leaf_words leaf ++ behind)) e
+none_in_begun (Some given) op name [] leaf behind is whole e = let tail : leaf_words leaf ++ behind ≡ operator_words op = cc in call_is_whole leaf behind given op whole is tail
+none_in_begun (Some given) op name (w ∷ left) leaf behind is whole e =
+    let tail : left ++ (Let ∷ (Named name ∷ Equals ∷ (leaf_words leaf ++ behind))) ≡ Named given ∷ Equals ∷ operator_words op = cc in
+    no_let_words (Named given ∷ Equals ∷ operator_words op) ((λ e. cc), ((λ e. cc), op_no_let op)) left (Named name ∷ Equals ∷ (leaf_words leaf ++ behind)) tail
 
 -- A let that is visible by the three conditions is seen behind the front.
-pub visible_is_seen : (blocks : List OpenBlock) (items : Items) (given : Option Name) (op : UnaryOp) (name : Name) → AreFlatBlocks blocks → AreFlat items
+pub visible_is_seen : (blocks : List OpenBlock) (items : Items) (given : Option Name) (op : Operator) (name : Name) → AreFlatBlocks blocks → AreFlat items → IsGiven given op
     → (sees : Sees (opening_words blocks ++ (items_words items ++ begun_words given op)) name) → HasLet (lets_seen blocks items) name (length sees.front)
-visible_is_seen blocks items given op name is are sees =
+visible_is_seen blocks items given op name is are begun sees =
     elim (visible_in blocks items name sees.front sees.call sees.behind (begun_words given op) is are sees.whole (begun_closes given op) sees.loops sees.series sees.stands) [
       | inl h ↦ h
-      | inr b ↦ absurd (none_in_begun given op name b.left sees.call sees.behind sees.whole b.stands)
+      | inr b ↦ absurd (none_in_begun given op name b.left sees.call sees.behind begun sees.whole b.stands)
     ]

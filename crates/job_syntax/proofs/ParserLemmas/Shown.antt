@@ -10,11 +10,12 @@ use Rattle.job_names.proofs.SameNames.{same_from, same_to}
 use Rattle.job_names.proofs.ScopeLemmas.{last_append}
 use Rattle.job_syntax.specs.declared.lexer.word.Word.{Word}
 use Rattle.job_syntax.specs.declared.lexer.word.Word.TheVariants.{Named}
-use Rattle.job_syntax.specs.declared.parser.call.Object.TheVariants as object
+use Rattle.job_syntax.specs.declared.parser.call.Operator.{Operator}
+use Rattle.job_syntax.specs.declared.parser.call.Operator.TheVariants as operator
 use Rattle.job_syntax.specs.Blocks.{name_kind}
-use Rattle.job_syntax.specs.Grammar.{UnaryOp, work, counter_add, stack_push, tree_insert, tree_remove, tree_find, tree_next, queue_insert, unary_op_words, items_words, Leaf, with_argument, stack_pop, queue_take, bound, BlockKind, seq_block, par_block, for_loop, pfor_loop, Items, nothing, leaf_then, block_then, is_loop, is_par}
+use Rattle.job_syntax.specs.Grammar.{items_words, Leaf, work, call, bound, BlockKind, seq_block, par_block, for_loop, pfor_loop, Items, nothing, leaf_then, block_then, is_loop, is_par}
 use Rattle.job_syntax.specs.Visibility.{Sees, is_let, ends_in_let}
-use Rattle.job_syntax.specs.Code.Machine.{OpenBlock, State, at, are_looped, Place, an_item, a_let_name, an_equals, a_let_object, an_argument, a_call, for_copies, pfor_copies, a_brace, is_known, step_at}
+use Rattle.job_syntax.specs.Code.Machine.{OpenBlock, operator_words, State, at, are_looped, Place, an_item, a_let_name, an_equals, a_let_object, an_argument, a_call, for_copies, pfor_copies, a_brace, is_known, step_at}
 use Rattle.job_syntax.specs.Code.Reached.{IsReached, opening_words, given_words, place_words}
 use Rattle.job_syntax.specs.Code.Shown.{lets_of, lets_behind, scope_at, is_shown}
 use Rattle.job_syntax.proofs.ParserLemmas.NamesSeen.{Has, has_append, has_left, has_right, names_of, names_behind, names_seen, flat_items, flat_blocks}
@@ -56,17 +57,15 @@ pub own_from : (x name : Name) → x ≡ name → IsTrue (is_some (or_else None 
 own_from x name e = subst (λ b. IsTrue (is_some (or_else None (if b then Some 0 else None)))) (sym (same_to x name e)) refl
 
 leaf_to : (leaf : Leaf) (name : Name) → IsIn name (lets_of leaf) → Has (names_of leaf) name
-leaf_to (with_argument op argument) name h = cc
-leaf_to (stack_pop named) name h = cc
-leaf_to (queue_take named) name h = cc
-leaf_to (bound x call) name h = inl (own_to (same_name x name) x name refl h)
+leaf_to (work argument) name h = cc
+leaf_to (call verb object argument) name h = cc
+leaf_to (bound x leaf) name h = inl (own_to (same_name x name) x name refl h)
 
 leaf_from : (leaf : Leaf) (name : Name) → Has (names_of leaf) name → IsIn name (lets_of leaf)
-leaf_from (with_argument op argument) name h = elim h [ ]
-leaf_from (stack_pop named) name h = elim h [ ]
-leaf_from (queue_take named) name h = elim h [ ]
-leaf_from (bound x call) name (inl e) = own_from x name e
-leaf_from (bound x call) name (inr h) = elim h [ ]
+leaf_from (work argument) name h = elim h [ ]
+leaf_from (call verb object argument) name h = elim h [ ]
+leaf_from (bound x leaf) name (inl e) = own_from x name e
+leaf_from (bound x leaf) name (inr h) = elim h [ ]
 
 kept_to : (b : Bool) (name : Name) (lets : List Let) (given : List Name) → (IsIn name lets → Has given name) → IsIn name (if b then [] else lets) → Has (if b then [] else given) name
 kept_to true name lets given h s = cc
@@ -128,20 +127,20 @@ shown_from (block ∷ blocks) items name h =
     ]
 
 -- In the place of an argument, the blocks show a let of the name where the words see one, and only there.
-pub shown_sees : (words : List Word) (blocks : List OpenBlock) (items : Items) (given : Option Name) (op : UnaryOp) (name : Name) → IsReached words (at blocks items (an_argument given op)) →
+pub shown_sees : (words : List Word) (blocks : List OpenBlock) (items : Items) (given : Option Name) (op : Operator) (name : Name) → IsReached words (at blocks items (an_argument given op)) →
     IsTrue (is_shown name (scope_at blocks items)) → Sees words name
 shown_sees words blocks items given op name reached shown =
     let there = place_seen blocks items name (shown_to blocks items name shown) in
     subst (λ all. Sees all name) reached.writes
-    (seen_is_visible blocks items (given_words given ++ unary_op_words op) name there.0 (flat_blocks blocks reached.blocks) (flat_items (are_looped blocks) items reached.items) (begun_closes given op)
+    (seen_is_visible blocks items (given_words given ++ operator_words op) name there.0 (flat_blocks blocks reached.blocks) (flat_items (are_looped blocks) items reached.items) (begun_closes given op)
     there.1).0
 
-pub sees_shown : (words : List Word) (blocks : List OpenBlock) (items : Items) (given : Option Name) (op : UnaryOp) (name : Name) → IsReached words (at blocks items (an_argument given op)) →
+pub sees_shown : (words : List Word) (blocks : List OpenBlock) (items : Items) (given : Option Name) (op : Operator) (name : Name) → IsReached words (at blocks items (an_argument given op)) →
     Sees words name → IsTrue (is_shown name (scope_at blocks items))
 sees_shown words blocks items given op name reached sees =
     let here = subst (λ all. Sees all name) (sym reached.writes) sees in
     shown_from blocks items name
-    (name_seen blocks items name (length here.front) (visible_is_seen blocks items given op name (flat_blocks blocks reached.blocks) (flat_items (are_looped blocks) items reached.items) here))
+    (name_seen blocks items name (length here.front) (visible_is_seen blocks items given op name (flat_blocks blocks reached.blocks) (flat_items (are_looped blocks) items reached.items) reached.place here))
 
 -- whether words end in `let`
 pub ends_append : (was : Bool) (xs ys : List Word) → ends_in_let was (xs ++ ys) ≡ ends_in_let (ends_in_let was xs) ys
@@ -155,17 +154,11 @@ ends_state words blocks items place reached =
     ∙ ends_append false (opening_words blocks) (items_words items ++ place_words place)
     ∙ ends_append (ends_in_let false (opening_words blocks)) (items_words items) (place_words place)
 
-op_ends : (was : Bool) (op : UnaryOp) → ends_in_let was (unary_op_words op) ≡ false
-op_ends was work = refl
-op_ends was (counter_add named) = refl
-op_ends was (stack_push named) = refl
-op_ends was (tree_insert named) = refl
-op_ends was (tree_remove named) = refl
-op_ends was (tree_find named) = refl
-op_ends was (tree_next named) = refl
-op_ends was (queue_insert named) = refl
+op_ends : (was : Bool) (op : Operator) → ends_in_let was (operator_words op) ≡ false
+op_ends was operator.Work = refl
+op_ends was (operator.Call verb object) = refl
 
-pub argument_ends : (was : Bool) (given : Option Name) (op : UnaryOp) → ends_in_let was (place_words (an_argument given op)) ≡ false
+pub argument_ends : (was : Bool) (given : Option Name) (op : Operator) → ends_in_let was (place_words (an_argument given op)) ≡ false
 argument_ends was None op = op_ends was op
 argument_ends was (Some name) op = op_ends false op
 
@@ -178,10 +171,7 @@ known_sees words blocks items a_let_name name new reached e known ends =
 known_sees words blocks items an_item name new reached e known ends = cc
 known_sees words blocks items (an_equals other) name new reached e known ends = cc
 known_sees words blocks items (a_let_object other) name new reached e known ends = cc
-known_sees words blocks items (a_call given (object.Counter named)) name new reached e known ends = cc
-known_sees words blocks items (a_call given (object.Stack named)) name new reached e known ends = cc
-known_sees words blocks items (a_call given (object.Tree named)) name new reached e known ends = cc
-known_sees words blocks items (a_call given (object.Queue named)) name new reached e known ends = cc
+known_sees words blocks items (a_call given of) name new reached e known ends = cc
 known_sees words blocks items for_copies name new reached e known ends = cc
 known_sees words blocks items pfor_copies name new reached e known ends = cc
 known_sees words blocks items (a_brace kind) name new reached e known ends = cc

@@ -5,88 +5,46 @@ use Rattle.std.specs.List.{AllByRecursion}
 use Rattle.job_names.specs.declared.name.Name.{Name}
 use Rattle.job_names.specs.declared.scopes.Let.{Let}
 use Rattle.job_syntax.specs.declared.lexer.word.Word.{Word}
-use Rattle.job_syntax.specs.declared.lexer.word.Word.TheVariants.{Open, Close, Number, Copies, Named}
-use Rattle.job_syntax.specs.Grammar.{work, counter_add, stack_push, tree_insert, tree_remove, tree_find, tree_next, queue_insert, Leaf, with_argument, stack_pop, queue_take, bound, BlockKind, seq_block, par_block, for_loop, pfor_loop, Items, nothing, leaf_then, block_then, leaf_words, kind_words, items_words, is_number, is_argument, is_call_argument, is_loop, is_par, IsCall, IsLeaf, IsBlockKind}
+use Rattle.job_syntax.specs.declared.lexer.word.Word.TheVariants.{Open, Close, Seq, Par, For, Pfor, Number}
+use Rattle.job_syntax.specs.Grammar as grammar
+use Rattle.job_syntax.specs.Grammar.{Leaf, work, bound, BlockKind, seq_block, par_block, for_loop, pfor_loop, Items, nothing, leaf_then, block_then, leaf_words, kind_words, items_words, is_number, is_loop, is_par, IsCall, IsLeaf, IsBlockKind}
 use Rattle.job_syntax.specs.Visibility.{blocks_behind, closed_by, is_in_series, Sees}
 use Rattle.job_syntax.specs.Code.Shown.{OpenBlock}
 use Rattle.job_syntax.specs.Code.Reached.{opening_words}
+use Rattle.job_syntax.proofs.ParserLemmas.Plain.{is_plain, ArePlain, plain_call, by_plain}
 use Rattle.job_syntax.proofs.ParserLemmas.NamesSeen.{AreFlat, AreFlatBlocks}
 use Rattle.job_syntax.proofs.ParserLemmas.LetsSeen.{HasLet, lets_of, lets_behind, lets_seen, lets_append, block_length}
 
--- words without braces close nothing and open nothing
-closed_argument : (w : Word) (rest : List Word) → IsTrue (is_argument true w) → closed_by (w ∷ rest) ≡ closed_by rest
-closed_argument (Number n) rest h = refl
-closed_argument (Copies n) rest h = refl
-closed_argument _ rest h = cc
+-- plain words close nothing and open nothing
+closed_word : (w : Word) (rest : List Word) → IsTrue (is_plain w) → closed_by (w ∷ rest) ≡ closed_by rest
+closed_word Open rest h = cc
+closed_word Close rest h = cc
+closed_word _ rest h = refl
 
-open_argument : (w : Word) (blocks : List BlockKind) (rest : List Word) → IsTrue (is_argument true w) → blocks_behind blocks (w ∷ rest) ≡ blocks_behind blocks rest
-open_argument (Number n) blocks rest h = refl
-open_argument (Copies n) blocks rest h = refl
-open_argument _ blocks rest h = cc
+closed_plain : (words rest : List Word) → ArePlain words → closed_by (words ++ rest) ≡ closed_by rest
+closed_plain [] rest h = refl
+closed_plain (w ∷ words) rest h = closed_word w (words ++ rest) h.0 ∙ closed_plain words rest h.1
 
-closed_value : (w : Word) (rest : List Word) → IsTrue (is_call_argument true w) → closed_by (w ∷ rest) ≡ closed_by rest
-closed_value (Number n) rest h = refl
-closed_value (Copies n) rest h = refl
-closed_value (Named n) rest h = refl
-closed_value _ rest h = cc
+open_word : (w : Word) (blocks : List BlockKind) (rest : List Word) → IsTrue (is_plain w) → blocks_behind blocks (w ∷ rest) ≡ blocks_behind blocks rest
+open_word Close blocks rest h = cc
+open_word Seq blocks rest h = cc
+open_word Par blocks rest h = cc
+open_word For blocks rest h = cc
+open_word Pfor blocks rest h = cc
+open_word _ blocks rest h = refl
 
-open_value : (w : Word) (blocks : List BlockKind) (rest : List Word) → IsTrue (is_call_argument true w) → blocks_behind blocks (w ∷ rest) ≡ blocks_behind blocks rest
-open_value (Number n) blocks rest h = refl
-open_value (Copies n) blocks rest h = refl
-open_value (Named n) blocks rest h = refl
-open_value _ blocks rest h = cc
+open_plain : (words : List Word) (blocks : List BlockKind) (rest : List Word) → ArePlain words → blocks_behind blocks (words ++ rest) ≡ blocks_behind blocks rest
+open_plain [] blocks rest h = refl
+open_plain (w ∷ words) blocks rest h = open_word w blocks (words ++ rest) h.0 ∙ open_plain words blocks rest h.1
 
-pub closed_call : (call : Leaf) (rest : List Word) → IsCall true call → closed_by (leaf_words call ++ rest) ≡ closed_by rest
-closed_call (with_argument work w) rest h = elim h [ ]
-closed_call (with_argument (counter_add named) w) rest h = closed_value w rest h
-closed_call (with_argument (stack_push named) w) rest h = closed_value w rest h
-closed_call (with_argument (tree_insert named) w) rest h = closed_value w rest h
-closed_call (with_argument (tree_remove named) w) rest h = closed_value w rest h
-closed_call (with_argument (tree_find named) w) rest h = closed_value w rest h
-closed_call (with_argument (tree_next named) w) rest h = closed_value w rest h
-closed_call (with_argument (queue_insert named) w) rest h = closed_value w rest h
-closed_call (stack_pop named) rest h = refl
-closed_call (queue_take named) rest h = refl
-closed_call (bound name call) rest h = elim h [ ]
-
-open_call : (call : Leaf) (blocks : List BlockKind) (rest : List Word) → IsCall true call → blocks_behind blocks (leaf_words call ++ rest) ≡ blocks_behind blocks rest
-open_call (with_argument work w) blocks rest h = elim h [ ]
-open_call (with_argument (counter_add named) w) blocks rest h = open_value w blocks rest h
-open_call (with_argument (stack_push named) w) blocks rest h = open_value w blocks rest h
-open_call (with_argument (tree_insert named) w) blocks rest h = open_value w blocks rest h
-open_call (with_argument (tree_remove named) w) blocks rest h = open_value w blocks rest h
-open_call (with_argument (tree_find named) w) blocks rest h = open_value w blocks rest h
-open_call (with_argument (tree_next named) w) blocks rest h = open_value w blocks rest h
-open_call (with_argument (queue_insert named) w) blocks rest h = open_value w blocks rest h
-open_call (stack_pop named) blocks rest h = refl
-open_call (queue_take named) blocks rest h = refl
-open_call (bound name call) blocks rest h = elim h [ ]
+pub closed_call : (leaf : Leaf) (rest : List Word) → IsCall true leaf → closed_by (leaf_words leaf ++ rest) ≡ closed_by rest
+closed_call leaf rest h = closed_plain (leaf_words leaf) rest (plain_call true leaf h)
 
 closed_leaf : (leaf : Leaf) (rest : List Word) → IsLeaf true leaf → closed_by (leaf_words leaf ++ rest) ≡ closed_by rest
-closed_leaf (with_argument work w) rest h = closed_argument w rest h
-closed_leaf (with_argument (counter_add named) w) rest h = closed_value w rest h
-closed_leaf (with_argument (stack_push named) w) rest h = closed_value w rest h
-closed_leaf (with_argument (tree_insert named) w) rest h = closed_value w rest h
-closed_leaf (with_argument (tree_remove named) w) rest h = closed_value w rest h
-closed_leaf (with_argument (tree_find named) w) rest h = closed_value w rest h
-closed_leaf (with_argument (tree_next named) w) rest h = closed_value w rest h
-closed_leaf (with_argument (queue_insert named) w) rest h = closed_value w rest h
-closed_leaf (stack_pop named) rest h = refl
-closed_leaf (queue_take named) rest h = refl
-closed_leaf (bound name call) rest h = closed_call call rest h
+closed_leaf leaf rest h = by_plain (λ words. closed_by (words ++ rest) ≡ closed_by rest) (λ words plain. closed_plain words rest plain) (λ name words plain. closed_plain words rest plain) true leaf h
 
 pub open_leaf : (leaf : Leaf) (blocks : List BlockKind) (rest : List Word) → IsLeaf true leaf → blocks_behind blocks (leaf_words leaf ++ rest) ≡ blocks_behind blocks rest
-open_leaf (with_argument work w) blocks rest h = open_argument w blocks rest h
-open_leaf (with_argument (counter_add named) w) blocks rest h = open_value w blocks rest h
-open_leaf (with_argument (stack_push named) w) blocks rest h = open_value w blocks rest h
-open_leaf (with_argument (tree_insert named) w) blocks rest h = open_value w blocks rest h
-open_leaf (with_argument (tree_remove named) w) blocks rest h = open_value w blocks rest h
-open_leaf (with_argument (tree_find named) w) blocks rest h = open_value w blocks rest h
-open_leaf (with_argument (tree_next named) w) blocks rest h = open_value w blocks rest h
-open_leaf (with_argument (queue_insert named) w) blocks rest h = open_value w blocks rest h
-open_leaf (stack_pop named) blocks rest h = refl
-open_leaf (queue_take named) blocks rest h = refl
-open_leaf (bound name call) blocks rest h = open_call call blocks rest h
+open_leaf leaf blocks rest h = by_plain (λ words. blocks_behind blocks (words ++ rest) ≡ blocks_behind blocks rest) (λ words plain. open_plain words blocks rest plain) (λ name words plain. open_plain words blocks rest plain) true leaf h
 
 closed_number : (copies : Word) (rest : List Word) → IsTrue (is_number copies) → closed_by (copies ∷ rest) ≡ closed_by rest
 closed_number (Number n) rest h = refl
@@ -220,11 +178,10 @@ at_leaf at name call more place whole is e = record {
 }
 
 place_leaf : (at : ℕ) (leaf : Leaf) (more : Items) (name : Name) (place : ℕ) → IsLeaf true leaf → AreFlat more → HasLet (lets_of at leaf) name place → Place at (leaf_then leaf more) name place
-place_leaf at (bound given call) more name place fits is (inl same) = subst (λ n. Place at (leaf_then (bound given call) more) n place) same.0 (at_leaf at given call more place fits is same.1)
-place_leaf at (bound given call) more name place fits is (inr never) = absurd never
-place_leaf at (with_argument op w) more name place fits is never = absurd never
-place_leaf at (stack_pop named) more name place fits is never = absurd never
-place_leaf at (queue_take named) more name place fits is never = absurd never
+place_leaf at (bound given leaf) more name place fits is (inl same) = subst (λ n. Place at (leaf_then (bound given leaf) more) n place) same.0 (at_leaf at given leaf more place fits is same.1)
+place_leaf at (bound given leaf) more name place fits is (inr never) = absurd never
+place_leaf at (work argument) more name place fits is never = absurd never
+place_leaf at (grammar.call verb object argument) more name place fits is never = absurd never
 
 place_block : (at : ℕ) (kind : BlockKind) (body more : Items) (name : Name) (place : ℕ) (loop : Bool) (lets : List Let) → is_loop kind ≡ loop → AreFlat body → AreFlat more
     → (HasLet lets name place → Place (at + length (kind_words kind ++ Open ∷ [])) body name place) → HasLet (if loop then [] else lets) name place → Place at (block_then kind body more) name place

@@ -6,9 +6,10 @@ use Rattle.job_syntax.specs.declared.lexer.word.WordOnLine.{WordOnLine}
 use Rattle.job_syntax.specs.declared.fault.JobFault.{JobFault}
 use Rattle.job_syntax.specs.declared.fault.JobFault.TheVariants as fault
 use Rattle.job_syntax.specs.declared.parser.call.Object.{Object}
+use Rattle.job_syntax.specs.declared.parser.call.Operator.{Operator}
 use Rattle.job_syntax.specs.Faults.{has_good_numbers}
-use Rattle.job_syntax.specs.Grammar.{Items, UnaryOp, takes}
-use Rattle.job_syntax.specs.Code.Machine.{object_of, are_looped}
+use Rattle.job_syntax.specs.Grammar.{Items}
+use Rattle.job_syntax.specs.Code.Machine.{object_of, takes, are_looped}
 use Rattle.job_syntax.specs.Code.Shown.{OpenBlock, scope_at, is_shown}
 use Rattle.job_names.specs.declared.name.Name.{Name}
 
@@ -25,7 +26,7 @@ is_known_word blocks items (Named name) = is_shown name (scope_at blocks items)
 is_known_word blocks items _ = true
 
 -- the argument of an operation, behind the items inside the open blocks
-abbrev pub argument_at : ℕ → List OpenBlock → Items → UnaryOp → List WordOnLine → Result (Word × List WordOnLine) JobFault
+abbrev pub argument_at : ℕ → List OpenBlock → Items → Operator → List WordOnLine → Result (Word × List WordOnLine) JobFault
 argument_at last blocks items op [] = Err (fault.Grammar last)
 argument_at last blocks items op (token ∷ tokens) =
     if takes op (are_looped blocks) token.word then

@@ -2,47 +2,49 @@
 pub use Rattle.job_syntax.specs.Code.Shown.{OpenBlock}
 use Rattle.std.specs.Prelude.{ℕ, List, [], ◌∷◌, Bool, true, false, ◌||◌, Option, Some, None, if◌then◌else◌, option_and_then, nat_le, length, Result, Ok, Err}
 use Rattle.job_syntax.specs.declared.lexer.word.Word.{Word}
-use Rattle.job_syntax.specs.declared.lexer.word.Word.TheVariants.{Open, Close, Work, Counter, Stack, Tree, Queue, Add, Push, Pop, Insert, Remove, Find, Next, Take, Seq, Par, For, Pfor, Let, Equals, Named}
+use Rattle.job_syntax.specs.declared.lexer.word.Word.TheVariants.{Open, Close, Work, Seq, Par, For, Pfor, Let, Equals, Named}
+use Rattle.job_syntax.specs.declared.lexer.word.Word.TheVariants as word
 use Rattle.job_syntax.specs.declared.lexer.word.WordOnLine.{WordOnLine}
 use Rattle.job_syntax.specs.declared.fault.JobFault.{JobFault}
 use Rattle.job_syntax.specs.declared.fault.JobFault.TheVariants as fault
 use Rattle.job_syntax.specs.declared.parser.call.Object.{Object}
-use Rattle.job_syntax.specs.declared.parser.call.Object.TheVariants as object
-use Rattle.job_syntax.specs.Grammar.{Items, nothing, leaf_then, block_then, ◌then◌, BlockKind, seq_block, par_block, for_loop, pfor_loop, Leaf, with_argument, stack_pop, queue_take, UnaryOp, work, counter_add, stack_push, tree_insert, tree_remove, tree_find, tree_next, queue_insert, bound, is_loop, is_number, takes}
+use Rattle.job_syntax.specs.declared.parser.call.Operator.{Operator}
+use Rattle.job_syntax.specs.declared.parser.call.Operator.TheVariants as operator
+use Rattle.seq_objects.specs.declared.verb.Verb.{Verb}
+use Rattle.seq_objects.specs.declared.kind.Kind.{Kind}
+use Rattle.seq_objects.specs.Verbs.{kind_of_verb, word_of_verb, takes_argument, verb_by}
+use Rattle.job_syntax.specs.Grammar.{Items, nothing, leaf_then, block_then, ◌then◌, BlockKind, seq_block, par_block, for_loop, pfor_loop, Leaf, work, call, bound, is_loop, is_number, is_argument, is_call_argument}
 use Rattle.job_names.specs.declared.name.Name.{Name}
 use Rattle.job_syntax.specs.Code.Shown.{scope_at, is_shown}
 use Rattle.job_syntax.specs.Faults.{has_good_numbers}
 
--- a call that still needs its argument, or a whole leaf
-pub data ParsedCall : Type 0 where
-  unary : UnaryOp → ParsedCall
-  whole : Leaf → ParsedCall
+-- the words of an operator, whether it takes a word as its argument, and the leaf with this argument
+abbrev pub operator_words : Operator → List Word
+operator_words operator.Work = Work ∷ []
+operator_words (operator.Call verb object) = word.Object (kind_of_verb verb) object ∷ word.Verb (word_of_verb verb) ∷ []
 
--- the call that an object and the word behind it spell, if any
-abbrev pub call_behind : Object → Word → Option ParsedCall
-call_behind (object.Counter named) Add = Some (unary (counter_add named))
-call_behind (object.Stack named) Push = Some (unary (stack_push named))
-call_behind (object.Stack named) Pop = Some (whole (stack_pop named))
-call_behind (object.Tree named) Insert = Some (unary (tree_insert named))
-call_behind (object.Tree named) Remove = Some (unary (tree_remove named))
-call_behind (object.Tree named) Find = Some (unary (tree_find named))
-call_behind (object.Tree named) Next = Some (unary (tree_next named))
-call_behind (object.Queue named) Insert = Some (unary (queue_insert named))
-call_behind (object.Queue named) Take = Some (whole (queue_take named))
-call_behind _ _ = None
+abbrev pub takes : Operator → Bool → Word → Bool
+takes operator.Work looped word = is_argument looped word
+takes (operator.Call verb object) looped word = is_call_argument looped word
+
+abbrev pub with_operand : Operator → Word → Leaf
+with_operand operator.Work argument = work argument
+with_operand (operator.Call verb object) argument = call verb object (Some argument)
 
 -- the object that a word names, if it names one
 abbrev pub object_of : Word → Option Object
-object_of (Counter named) = Some (object.Counter named)
-object_of (Stack named) = Some (object.Stack named)
-object_of (Tree named) = Some (object.Tree named)
-object_of (Queue named) = Some (object.Queue named)
+object_of (word.Object kind name) = Some (record { kind = kind; name = name })
 object_of _ = None
+
+-- the verb that a word spells behind an object of this kind, if it spells one
+abbrev pub verb_behind : Kind → Word → Option Verb
+verb_behind kind (word.Verb spelled) = verb_by kind spelled
+verb_behind kind _ = None
 
 -- the leaf of a call, with the name that a `let` gave, if one did
 abbrev pub given_leaf : Option Name → Leaf → Leaf
-given_leaf None call = call
-given_leaf (Some name) call = bound name call
+given_leaf None leaf = leaf
+given_leaf (Some name) leaf = bound name leaf
 
 -- what must come next; `given` is the name of the `let` before it, if there is one
 pub data Place : Type 0 where
@@ -50,7 +52,7 @@ pub data Place : Type 0 where
   a_let_name : Place
   an_equals : (name : Name) → Place
   a_let_object : (name : Name) → Place
-  an_argument : (given : Option Name) → UnaryOp → Place
+  an_argument : (given : Option Name) → Operator → Place
   a_call : (given : Option Name) → Object → Place
   for_copies : Place
   pfor_copies : Place
@@ -88,11 +90,8 @@ after_close (block ∷ blocks) items = Some (at blocks (block.before then block_
 
 abbrev pub item_step : List OpenBlock → Items → Word → Option State
 item_step blocks items Close = after_close blocks items
-item_step blocks items Work = Some (at blocks items (an_argument None work))
-item_step blocks items (Counter named) = Some (at blocks items (a_call None (object.Counter named)))
-item_step blocks items (Stack named) = Some (at blocks items (a_call None (object.Stack named)))
-item_step blocks items (Tree named) = Some (at blocks items (a_call None (object.Tree named)))
-item_step blocks items (Queue named) = Some (at blocks items (a_call None (object.Queue named)))
+item_step blocks items Work = Some (at blocks items (an_argument None operator.Work))
+item_step blocks items (word.Object kind name) = Some (at blocks items (a_call None (record { kind = kind; name = name })))
 item_step blocks items Let = Some (at blocks items a_let_name)
 item_step blocks items Seq = Some (at blocks items (a_brace seq_block))
 item_step blocks items Par = Some (at blocks items (a_brace par_block))
@@ -112,13 +111,15 @@ abbrev pub object_step : List OpenBlock → Items → Name → Option Object →
 object_step blocks items name None = None
 object_step blocks items name (Some of) = Some (at blocks items (a_call (Some name) of))
 
-abbrev pub behind_call : List OpenBlock → Items → Option Name → ParsedCall → State
-behind_call blocks items given (unary op) = at blocks items (an_argument given op)
-behind_call blocks items given (whole leaf) = with_leaf blocks items (given_leaf given leaf)
+-- behind the verb of a call comes its argument, where the verb takes one
+abbrev pub behind_verb : List OpenBlock → Items → Option Name → Option Name → Verb → State
+behind_verb blocks items given object verb =
+    if takes_argument verb then at blocks items (an_argument given (operator.Call verb object))
+    else with_leaf blocks items (given_leaf given (call verb object None))
 
-abbrev pub call_step : List OpenBlock → Items → Option Name → Option ParsedCall → Option State
-call_step blocks items given None = None
-call_step blocks items given (Some call) = Some (behind_call blocks items given call)
+abbrev pub call_step : List OpenBlock → Items → Option Name → Option Name → Option Verb → Option State
+call_step blocks items given object None = None
+call_step blocks items given object (Some verb) = Some (behind_verb blocks items given object verb)
 
 abbrev pub brace_step : List OpenBlock → Items → BlockKind → Word → Option State
 brace_step blocks items kind Open = Some (after_open blocks items kind)
@@ -130,8 +131,8 @@ step_at blocks items a_let_name word = let_name_step blocks items word
 step_at blocks items (an_equals name) word = equals_step blocks items name word
 step_at blocks items (a_let_object name) word = object_step blocks items name (object_of word)
 step_at blocks items (an_argument given op) word =
-    if takes op (are_looped blocks) word then Some (with_leaf blocks items (given_leaf given (with_argument op word))) else None
-step_at blocks items (a_call given of) word = call_step blocks items given (call_behind of word)
+    if takes op (are_looped blocks) word then Some (with_leaf blocks items (given_leaf given (with_operand op word))) else None
+step_at blocks items (a_call given of) word = call_step blocks items given of.name (verb_behind of.kind word)
 step_at blocks items for_copies word = if is_number word then Some (at blocks items (a_brace (for_loop word))) else None
 step_at blocks items pfor_copies word = if is_number word then Some (at blocks items (a_brace (pfor_loop word))) else None
 step_at blocks items (a_brace kind) word = brace_step blocks items kind word

@@ -1,10 +1,11 @@
 -- The lets that the reader's open blocks show.
-use Rattle.std.specs.Prelude.{List, [], ◌∷◌, ◌++◌, Bool, if◌then◌else◌, is_some, IsTrue}
+use Rattle.std.specs.Prelude.{List, [], ◌∷◌, ◌++◌, Bool, Some, None, if◌then◌else◌, is_some, IsTrue}
 use Rattle.job_names.specs.declared.name.Name.{Name}
 use Rattle.job_names.specs.declared.scopes.Let.{Let}
 use Rattle.job_names.specs.Scopes.{Scope, job, inside, last_of, lets_shown}
 use Rattle.job_syntax.specs.Blocks.{name_kind}
-use Rattle.job_syntax.specs.Grammar.{Leaf, with_argument, stack_pop, queue_take, bound, BlockKind, Items, nothing, leaf_then, block_then, ◌then◌, is_loop}
+use Rattle.job_syntax.specs.Grammar.{Leaf, work, call, bound, BlockKind, Items, nothing, leaf_then, block_then, ◌then◌, is_loop}
+use Rattle.job_syntax.specs.declared.lexer.word.Word.{Word}
 use Rattle.job_syntax.specs.declared.lexer.word.Word.TheVariants.{Named}
 
 -- an open block: the items before it, and its head
@@ -14,10 +15,9 @@ pub record OpenBlock : Type 0 where
 
 -- the let that a leaf makes; the reader asks only whether there is one, and gives all the number 0
 abbrev pub lets_of : Leaf → List Let
-lets_of (bound name call) = record { name = name; number = 0 } ∷ []
-lets_of (with_argument op argument) = []
-lets_of (stack_pop named) = []
-lets_of (queue_take named) = []
+lets_of (bound name leaf) = record { name = name; number = 0 } ∷ []
+lets_of (work argument) = []
+lets_of (call verb object argument) = []
 
 -- the lets of items that are shown behind them, in text order
 abbrev pub lets_behind : Items → List Let
@@ -34,11 +34,16 @@ scope_at (block ∷ blocks) items = inside (scope_at blocks block.before) (name_
 abbrev pub is_shown : Name → Scope → Bool
 is_shown name scope = is_some (last_of name (lets_shown scope))
 
--- a name that the leaf uses has a let in the scope
+-- a name that a leaf uses has a let in the scope
+abbrev pub IsShownWord : Scope → Word → Type 0
+IsShownWord scope (Named name) = IsTrue (is_shown name scope)
+IsShownWord scope _ = Unit {0}
+
 abbrev pub IsShownLeaf : Scope → Leaf → Type 0
-IsShownLeaf scope (with_argument op (Named name)) = IsTrue (is_shown name scope)
-IsShownLeaf scope (bound name call) = IsShownLeaf scope call
-IsShownLeaf scope _ = Unit {0}
+IsShownLeaf scope (work argument) = IsShownWord scope argument
+IsShownLeaf scope (call verb object (Some argument)) = IsShownWord scope argument
+IsShownLeaf scope (call verb object None) = Unit {0}
+IsShownLeaf scope (bound name leaf) = IsShownLeaf scope leaf
 
 -- each name that the items use has a let shown there, where they stand behind `before` inside the open blocks
 abbrev pub AreShown : List OpenBlock → Items → Items → Type 0

@@ -1,5 +1,6 @@
 //! The words of the language, each with its line.
 use job_names::Name;
+use seq_objects::{Kind, VerbWord};
 
 /// What a token spells. `Number` holds `None` where its digits have a leading zero or do not fit 32 bits, and `Copies`
 /// holds `None` where those of its factor or its addend do.
@@ -8,19 +9,10 @@ pub enum Word {
     Open,
     Close,
     Work,
-    /// The word of a kind of objects, and behind a colon the name of one of them; so the next three.
-    Counter(Option<Name>),
-    Stack(Option<Name>),
-    Tree(Option<Name>),
-    Queue(Option<Name>),
-    Add,
-    Push,
-    Pop,
-    Insert,
-    Remove,
-    Find,
-    Next,
-    Take,
+    /// The word of a kind of objects, and behind a colon the name of one of them.
+    Object(Kind, Option<Name>),
+    /// The word of a verb.
+    Verb(VerbWord),
     Seq,
     Par,
     For,

@@ -1,10 +1,10 @@
 //! Which word a token spells: a quoted word of the grammar, a number, one that depends on the copy, or a name.
 ghost use Rattle.std.specs.Prelude.{◌≡◌, ◌+◌, ◌<◌, [], IfSome, IfNone, IsTrue, not, length, take, drop};
-ghost use Rattle.job_syntax.specs.declared.lexer.word.Word.{Word};
-ghost use Rattle.job_syntax.specs.Words.{are_digits, begins_well, number_of, before_first, behind_first, copies_word, kind_word, object_word, argument_word, word_of, quoted_or};
+ghost use Rattle.job_syntax.specs.Words.{are_digits, begins_well, number_of, before_first, behind_first, copies_word, kind_word, object_word, argument_word, own_word, table_word, word_of};
 
 use crate::lexer::word::Word;
 use job_names::{Name, is_spelled, name_of};
+use seq_objects::{Kind, VerbWord};
 
 /// Whether a text is digits alone, at least one.
 fn are_digits(text: &[u8]) -> bool
@@ -73,12 +73,9 @@ fn copies_word(text: &[u8]) -> Word
 fn kind_word(text: &[u8], name: Name) -> Word
     ensures { result ≡ kind_word text.now name }
 {
-    match text {
-        b"counter" => Word::Counter(Some(name)),
-        b"stack" => Word::Stack(Some(name)),
-        b"tree" => Word::Tree(Some(name)),
-        b"queue" => Word::Queue(Some(name)),
-        _ => Word::Other,
+    match Kind::of_text(text) {
+        Some(kind) => Word::Object(kind, Some(name)),
+        None => Word::Other,
     }
 }
 
@@ -112,27 +109,14 @@ fn argument_word(text: &[u8]) -> Word
     }
 }
 
-/// The word of a token that is a quoted word of the grammar.
-fn quoted_word(text: &[u8]) -> Option<Word>
-    ensures some { IfSome result (λ word. (other : Word) → quoted_or text.now other ≡ word) }
-    ensures none { IfNone result ((other : Word) → quoted_or text.now other ≡ other) }
+/// The word of the language that a text is, but for the words of kinds and verbs.
+fn own_word(text: &[u8]) -> Option<Word>
+    ensures { result ≡ own_word text.now }
 {
     let word = match text {
         b"{" => Word::Open,
         b"}" => Word::Close,
         b"work" => Word::Work,
-        b"counter" => Word::Counter(None),
-        b"stack" => Word::Stack(None),
-        b"tree" => Word::Tree(None),
-        b"queue" => Word::Queue(None),
-        b"add" => Word::Add,
-        b"push" => Word::Push,
-        b"pop" => Word::Pop,
-        b"insert" => Word::Insert,
-        b"remove" => Word::Remove,
-        b"find" => Word::Find,
-        b"next" => Word::Next,
-        b"take" => Word::Take,
         b"seq" => Word::Seq,
         b"par" => Word::Par,
         b"for" => Word::For,
@@ -144,11 +128,24 @@ fn quoted_word(text: &[u8]) -> Option<Word>
     Some(word)
 }
 
+/// The word of a kind or of a verb that a text is.
+fn table_word(text: &[u8]) -> Option<Word>
+    ensures { result ≡ table_word text.now }
+{
+    if let Some(kind) = Kind::of_text(text) {
+        return Some(Word::Object(kind, None));
+    }
+    VerbWord::of_text(text).map(Word::Verb)
+}
+
 /// The word that a token spells.
 pub(crate) fn word_of(text: &[u8]) -> Word
     ensures { result ≡ word_of text.now }
 {
-    match quoted_word(text) {
+    if let Some(word) = own_word(text) {
+        return word;
+    }
+    match table_word(text) {
         Some(word) => word,
         None => argument_word(text),
     }

@@ -3,12 +3,12 @@ ghost use Rattle.std.specs.Prelude.{◌≡◌, ◌≤◌, [], ◌∷◌, Ok, Err
 ghost use Rattle.job_syntax.specs.Words.{words_on_lines};
 
 use crate::fault::JobFault;
-use crate::item::{Argument, UnaryOp};
+use crate::item::Argument;
 use crate::lexer::scanner::Scanner;
 use crate::lexer::word::{Word, WordOnLine};
 use crate::lexer::word_of::word_of;
 use crate::parser::blocks::BlockStack;
-use crate::parser::call::{Object, object_of};
+use crate::parser::call::{Object, Operator, object_of};
 use job_names::Name;
 use std::marker::Model;
 
@@ -62,7 +62,7 @@ impl<'a> Cursor<'a> {
     ghost use Rattle.job_syntax.specs.Grammar.{is_number};
     ghost use Rattle.job_syntax.specs.Code.Cursors.{word_at, argument_at, name_at, equals_at, object_at, brace_at};
     ghost use Rattle.job_syntax.specs.Code.OpenBlocks.{ShowsLets, view};
-    ghost use Rattle.job_syntax.specs.Views.{argument_word, unary_op_of};
+    ghost use Rattle.job_syntax.specs.Views.{argument_word};
     ghost use Rattle.job_syntax.specs.declared.lexer.word.Word.TheVariants.{Number};
 
     /// Takes the argument of an operation. Inside a loop it may depend on the copy, and that of a call may be a name,
@@ -70,14 +70,14 @@ impl<'a> Cursor<'a> {
     pub(crate) fn argument(
         &mut self,
         last: u32,
-        op: UnaryOp,
+        op: Operator,
         stack: &BlockStack,
     ) -> Result<Argument, JobFault>
         requires { ShowsLets stack.now }
         ensures gives { MatchResult result
-            (λ argument. argument_at last (view stack.now).blocks (view stack.now).items (unary_op_of op) self.old
+            (λ argument. argument_at last (view stack.now).blocks (view stack.now).items op self.old
             ≡ Ok (argument_word argument, self.new))
-            (λ found. argument_at last (view stack.now).blocks (view stack.now).items (unary_op_of op) self.old
+            (λ found. argument_at last (view stack.now).blocks (view stack.now).items op self.old
             ≡ Err found) }
         ensures shorter { length self.new ≤ length self.old }
     {
@@ -91,7 +91,7 @@ impl<'a> Cursor<'a> {
                 Ok(Argument::Copies(factor, addend))
             }
             Word::Copies(None) if stack.is_looped() => Err(JobFault::Number { line: token.line }),
-            Word::Named(_) if matches!(op, UnaryOp::Work) => {
+            Word::Named(_) if matches!(op, Operator::Work) => {
                 Err(JobFault::Grammar { line: token.line })
             }
             Word::Named(name) if stack.shows(name) => Ok(Argument::Reply(name)),

@@ -1,6 +1,7 @@
 -- The fault of reading tokens from left to right: the first token with a fault decides; where none has one, the end of
 -- the text may be the fault.
 use Rattle.std.specs.Prelude.{◌≡◌, ℕ, ◌+◌, ◌-◌, ◌<◌, ◌≤◌, List, [], ◌∷◌, ◌++◌, map, Bool, true, false, ◌⊎◌, None, IsTrue}
+use Rattle.limits.specs.declared.TheConstants.{MOST_OPEN_BLOCKS}
 use Rattle.job_syntax.specs.declared.lexer.word.Word.{Word}
 use Rattle.job_syntax.specs.declared.lexer.word.Word.TheVariants.{Open, Close, Number, Copies}
 use Rattle.job_syntax.specs.declared.lexer.word.WordOnLine.{WordOnLine}
@@ -34,7 +35,7 @@ StandsBehind before token = CanGoOn (words_of (before ++ token ∷ []))
 pub record IsClean (before : List WordOnLine) (token : WordOnLine) : Type 0 where
   pub stands : StandsBehind before token
   pub numbers : IsTrue (has_good_numbers token.word)
-  pub nests : token.word ≡ Open → open_behind 0 (words_of before) < 32
+  pub nests : token.word ≡ Open → open_behind 0 (words_of before) < MOST_OPEN_BLOCKS
   pub known : IsKnown (words_of before) token.word
 
 -- None of the tokens, after those of `before`, has a fault.
@@ -43,13 +44,13 @@ AreClean before [] = Unit {0}
 AreClean before (token ∷ tokens) = IsClean before token × AreClean (before ++ token ∷ []) tokens
 
 -- The token, after those of `before`, has this fault: it cannot stand there; or it can, but its numbers are bad; or
--- they are good, but it is a `{` inside 32 blocks; or it is a use of a name that sees no let of it.
+-- they are good, but it is a `{` inside as many blocks as may be open; or it is a use of a name that sees no let of it.
 abbrev pub Faults : List WordOnLine → WordOnLine → JobFault → Type 0
 Faults before token (fault.Grammar line) = (line ≡ token.line) × (StandsBehind before token → ⊥)
 Faults before token (fault.Number line) =
     (line ≡ token.line) × StandsBehind before token × (has_good_numbers token.word ≡ false)
 Faults before token (fault.Nesting line) =
-    (line ≡ token.line) × StandsBehind before token × IsTrue (has_good_numbers token.word) × (token.word ≡ Open) × (32 ≤ open_behind 0 (words_of before))
+    (line ≡ token.line) × StandsBehind before token × IsTrue (has_good_numbers token.word) × (token.word ≡ Open) × (MOST_OPEN_BLOCKS ≤ open_behind 0 (words_of before))
 Faults before token (fault.Name line) =
     (line ≡ token.line) × StandsBehind before token × (name : Name) × IsUse (words_of before) token.word name × (Sees (words_of before) name → ⊥)
 Faults before token _ = ⊥

@@ -13,7 +13,7 @@ pub enum JobFault {
     Grammar { line: u32 },
     /// A number with a leading zero, or past 32 bits.
     Number { line: u32 },
-    /// A block inside 32 others.
+    /// A block inside as many others as may be open.
     Nesting { line: u32 },
     /// More than 20,000 leaves.
     Leaves { line: u32 },

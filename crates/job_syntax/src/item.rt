@@ -69,7 +69,8 @@ impl BlockKind {
     }
 }
 
-/// A leaf, a call with a name for its reply, or a block and its items. Blocks nest at most 32 deep.
+/// A leaf, a call with a name for its reply, or a block and its items. Blocks nest no deeper than
+/// `limits::MOST_OPEN_BLOCKS`.
 #[derive(Drop)]
 pub enum Item {
     Leaf(Leaf),

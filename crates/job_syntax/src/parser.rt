@@ -1,5 +1,6 @@
 //! The parser: one pass over the words of a text, with a stack of open blocks.
 ghost use Rattle.std.specs.Prelude.{◌≡◌, ◌≤◌, ◌∷◌, Err, IfOk, OnOk, length};
+ghost use Rattle.limits.specs.declared.TheConstants.{MOST_JOB_BYTES};
 ghost use Rattle.job_syntax.specs.Text.{last_line};
 ghost use Rattle.job_syntax.specs.Words.{words_on_lines};
 ghost use Rattle.job_syntax.specs.Faults.{IsReadingFault};
@@ -113,7 +114,7 @@ fn read_all(alloc: Global, mut words: Cursor, last: u32) -> Result<Vec<Item>, Jo
 /// The items that the words of a text write, or their first fault. A text that ends too early has a `Grammar` fault on
 /// its last line.
 pub fn read_items(alloc: Global, text: &[u8]) -> Result<Vec<Item>, JobErr>
-    requires { length text.now ≤ 1048576 }
+    requires { length text.now ≤ MOST_JOB_BYTES }
     ensures items { IfOk result (λ items. AreItemsOf (words_on_lines text.now) (items_of items.items)) }
     ensures fault { (fault : JobFault) → result ≡ Err (Bad fault)
         → IsReadingFault (last_line text.now) (words_on_lines text.now) fault }

@@ -3,6 +3,7 @@ use Rattle.std.proofs.Common.{◌≡◌, ℕ, ◌+◌, ◌-◌, ◌<◌, List, [
 use Rattle.std.proofs.lemmas.List.{map-append}
 use Rattle.std.proofs.lemmas.Bool.{leb-true, leb-false}
 use Rattle.std.specs.Prelude.{IsTrue, if◌then◌else◌, IfSome, MatchResult, nat_le}
+use Rattle.limits.specs.declared.TheConstants.{MOST_OPEN_BLOCKS}
 use Rattle.job_syntax.specs.declared.lexer.word.Word.{Word}
 use Rattle.job_syntax.specs.declared.lexer.word.Word.TheVariants.{Open, Close, Work, Seq, Par, For, Pfor, Let, Equals, Number, Named}
 use Rattle.job_syntax.specs.declared.lexer.word.Word.TheVariants as word
@@ -155,7 +156,7 @@ later last before token tokens (Ok items) clean answers =
 later last before token tokens (Err found) clean answers = inr (clean, answers)
 
 module _ (last : ℕ) (token : WordOnLine) (tokens before : List WordOnLine) (state new : State) (stands : Stands before state) (e : step state token.word ≡ Some new) (rest : (front : List WordOnLine) (next : State) → Stands front next → AreAnswer last front tokens (read_from last next tokens)) where
-  go_on : IsTrue (has_good_numbers token.word) → (token.word ≡ Open → length state.blocks < 32) → IsKnown (words_of before) token.word →
+  go_on : IsTrue (has_good_numbers token.word) → (token.word ≡ Open → length state.blocks < MOST_OPEN_BLOCKS) → IsKnown (words_of before) token.word →
       AreAnswer last before (token ∷ tokens) (read_from last new tokens)
   go_on good room known =
       let next = stands-push before state new token stands e in
@@ -163,12 +164,12 @@ module _ (last : ℕ) (token : WordOnLine) (tokens before : List WordOnLine) (st
       (record { stands = goes_on_now _ new next; numbers = good; nests = (λ h. let r = room h in omega (arith, r, stands.open_now)); known = known })
       (rest (before ++ token ∷ []) new next)
 
-  at_open : IsTrue (has_good_numbers token.word) → token.word ≡ Open → (b : Bool) → nat_le 32 (length state.blocks) ≡ b →
+  at_open : IsTrue (has_good_numbers token.word) → token.word ≡ Open → (b : Bool) → nat_le MOST_OPEN_BLOCKS (length state.blocks) ≡ b →
       AreAnswer last before (token ∷ tokens) (on_state (λ next. read_from last next tokens) (if b then Err (fault.Nesting token.line) else Ok new))
   at_open good o true h =
-      let deep = leb-true 32 (length state.blocks) h in
+      let deep = leb-true MOST_OPEN_BLOCKS (length state.blocks) h in
       inl (refl, goes_on_now _ new (stands-push before state new token stands e), good, o, omega (arith, deep, stands.open_now))
-  at_open good o false h = go_on good (λ _. leb-false 32 (length state.blocks) h) (λ name used. absurd (let n = used.0 in cc (n, o)))
+  at_open good o false h = go_on good (λ _. leb-false MOST_OPEN_BLOCKS (length state.blocks) h) (λ name used. absurd (let n = used.0 in cc (n, o)))
 
   at_name : IsTrue (has_good_numbers token.word) → (name : Name) → token.word ≡ Named name → (b : Bool) → is_known state.place state.blocks state.items name ≡ b →
       AreAnswer last before (token ∷ tokens) (on_state (λ next. read_from last next tokens) (if b then Ok new else Err (fault.Name token.line)))

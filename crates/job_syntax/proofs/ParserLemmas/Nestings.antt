@@ -3,6 +3,7 @@ use Rattle.std.proofs.Common.{◌≡◌, ℕ, ◌+◌, ◌-◌, ◌<◌, ◌≤�
 use Rattle.std.specs.Prelude.{Bool, IsTrue, ◌||◌, ◌↔◌}
 use Rattle.std.specs.List.{AllByRecursion}
 use Rattle.std.proofs.lemmas.List.{map-append}
+use Rattle.limits.specs.declared.TheConstants.{MOST_OPEN_BLOCKS}
 use Rattle.job_syntax.specs.declared.lexer.word.Word.{Word}
 use Rattle.job_syntax.specs.declared.lexer.word.Word.TheVariants.{Open, Close, Number}
 use Rattle.job_syntax.specs.declared.lexer.word.WordOnLine.{WordOnLine}
@@ -14,10 +15,10 @@ use Rattle.job_syntax.proofs.ParserLemmas.Plain.{is_plain, ArePlain, by_plain}
 use Rattle.job_syntax.proofs.ParserLemmas.MachineAnswers.{open_behind-push}
 use Rattle.job_syntax.proofs.ParserLemmas.Completions.{front_goes_on}
 
--- at each `{` fewer than 32 blocks are open, where `n` are open at the front
+-- at each `{` fewer blocks are open than may be, where `n` are open at the front
 abbrev pub AreNested : ℕ → List Word → Type 0
 AreNested n [] = Unit {0}
-AreNested n (Open ∷ words) = (n < 32) × AreNested (n + 1) words
+AreNested n (Open ∷ words) = (n < MOST_OPEN_BLOCKS) × AreNested (n + 1) words
 AreNested n (Close ∷ words) = AreNested (n - 1) words
 AreNested n (_ ∷ words) = AreNested n words
 
@@ -60,8 +61,8 @@ after_close_again : (n : ℕ) → n + 1 - 1 ≡ n
 after_close_again n = omega arith
 
 -- the nesting of items follows from the blocks open at their braces
-pub nesting_within : (looped : Bool) (n : ℕ) (items : Items) (words : List Word) → AreItems looped items → n ≤ 32 →
-    AreNested n (items_words items ++ words) → (n + nesting items ≤ 32) × AreNested n words
+pub nesting_within : (looped : Bool) (n : ℕ) (items : Items) (words : List Word) → AreItems looped items → n ≤ MOST_OPEN_BLOCKS →
+    AreNested n (items_words items ++ words) → (n + nesting items ≤ MOST_OPEN_BLOCKS) × AreNested n words
 nesting_within looped n nothing words fits room within_nesting = (omega (arith, room), within_nesting)
 nesting_within looped n (leaf_then leaf more) words fits room within_nesting =
     nesting_within looped n more words fits.1 room
@@ -74,7 +75,7 @@ nesting_within looped n (block_then kind body more) words fits room within_nesti
     (omega (arith, first.0, rest.0), rest.1)
 
 -- the blocks open at the braces follow from the nesting of the items
-pub nested_within : (looped : Bool) (n : ℕ) (items : Items) (words : List Word) → AreItems looped items → n + nesting items ≤ 32 →
+pub nested_within : (looped : Bool) (n : ℕ) (items : Items) (words : List Word) → AreItems looped items → n + nesting items ≤ MOST_OPEN_BLOCKS →
     AreNested n words → AreNested n (items_words items ++ words)
 nested_within looped n nothing words fits room within_nesting = within_nesting
 nested_within looped n (leaf_then leaf more) words fits room within_nesting =
@@ -88,12 +89,12 @@ nested_within looped n (block_then kind body more) words fits room within_nestin
     ((skip_kind n kind (items_words body ++ Close ∷ (items_words more ++ words)) fits.0).1 (omega (arith, room), first))
 
 -- the same for one word
-nested_first : (n : ℕ) (word : Word) (words : List Word) → (word ≡ Open → n < 32) → AreNested (open_behind n (word ∷ [])) words → AreNested n (word ∷ words)
+nested_first : (n : ℕ) (word : Word) (words : List Word) → (word ≡ Open → n < MOST_OPEN_BLOCKS) → AreNested (open_behind n (word ∷ [])) words → AreNested n (word ∷ words)
 nested_first n Open words room within_nesting = (room refl, within_nesting)
 nested_first n Close words room within_nesting = within_nesting
 nested_first n _ words room within_nesting = within_nesting
 
-first_nests : (n : ℕ) (word : Word) (words : List Word) → AreNested n (word ∷ words) → (word ≡ Open → n < 32) × AreNested (open_behind n (word ∷ [])) words
+first_nests : (n : ℕ) (word : Word) (words : List Word) → AreNested n (word ∷ words) → (word ≡ Open → n < MOST_OPEN_BLOCKS) × AreNested (open_behind n (word ∷ [])) words
 first_nests n Open words within_nesting = ((λ e. within_nesting.0), within_nesting.1)
 first_nests n Close words within_nesting = ((λ e. absurd (cc e)), within_nesting)
 first_nests n _ words within_nesting = ((λ e. absurd (cc e)), within_nesting)

@@ -1,5 +1,6 @@
 -- What a cursor requires of the tokens that are left: the word that it takes with the tokens behind it, or the fault.
 use Rattle.std.specs.Prelude.{ℕ, List, [], ◌∷◌, Bool, true, Option, Some, None, Result, Ok, Err, if◌then◌else◌, nat_le}
+use Rattle.limits.specs.declared.TheConstants.{MOST_OPEN_BLOCKS}
 use Rattle.job_syntax.specs.declared.lexer.word.Word.{Word}
 use Rattle.job_syntax.specs.declared.lexer.word.Word.TheVariants.{Open, Equals, Named}
 use Rattle.job_syntax.specs.declared.lexer.word.WordOnLine.{WordOnLine}
@@ -62,9 +63,9 @@ abbrev pub object_at : ℕ → List WordOnLine → Result (Object × List WordOn
 object_at last [] = Err (fault.Grammar last)
 object_at last (token ∷ tokens) = object_word token tokens (object_of token.word)
 
--- a `{`, where fewer than 32 blocks are open
+-- a `{`, where fewer blocks are open than may be
 abbrev pub brace_word : ℕ → WordOnLine → List WordOnLine → Word → Result (List WordOnLine) JobFault
-brace_word open_now token tokens Open = if nat_le 32 open_now then Err (fault.Nesting token.line) else Ok tokens
+brace_word open_now token tokens Open = if nat_le MOST_OPEN_BLOCKS open_now then Err (fault.Nesting token.line) else Ok tokens
 brace_word open_now token tokens _ = Err (fault.Grammar token.line)
 
 abbrev pub brace_at : ℕ → ℕ → List WordOnLine → Result (List WordOnLine) JobFault

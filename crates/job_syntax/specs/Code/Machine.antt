@@ -1,5 +1,6 @@
 -- A state machine that reads one word at a time: the parser, as its proofs see it.
 pub use Rattle.job_syntax.specs.Code.Shown.{OpenBlock}
+use Rattle.limits.specs.declared.TheConstants.{MOST_OPEN_BLOCKS}
 use Rattle.std.specs.Prelude.{ℕ, List, [], ◌∷◌, Bool, true, false, ◌||◌, Option, Some, None, if◌then◌else◌, option_and_then, nat_le, length, Result, Ok, Err}
 use Rattle.job_syntax.specs.declared.lexer.word.Word.{Word}
 use Rattle.job_syntax.specs.declared.lexer.word.Word.TheVariants.{Open, Close, Work, Seq, Par, For, Pfor, Let, Equals, Named}
@@ -150,9 +151,9 @@ abbrev pub is_known : Place → List OpenBlock → Items → Name → Bool
 is_known (an_argument given op) blocks items name = is_shown name (scope_at blocks items)
 is_known _ blocks items name = true
 
--- a `{` is a fault where 32 blocks are open, and a name where it is not known
+-- a `{` is a fault where no more blocks may be open, and a name where it is not known
 abbrev pub checked_word : ℕ → State → Word → State → Result State JobFault
-checked_word line state Open new = if nat_le 32 (length state.blocks) then Err (fault.Nesting line) else Ok new
+checked_word line state Open new = if nat_le MOST_OPEN_BLOCKS (length state.blocks) then Err (fault.Nesting line) else Ok new
 checked_word line state (Named name) new = if is_known state.place state.blocks state.items name then Ok new else Err (fault.Name line)
 checked_word line state _ new = Ok new
 

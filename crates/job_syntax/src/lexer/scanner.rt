@@ -1,6 +1,7 @@
 //! The scanner: the tokens of a text, one after another.
 ghost use Rattle.std.specs.Prelude.{◌≡◌, ◌+◌, ◌<◌, ◌≤◌, ◌^◌, [], ◌∷◌, MatchOption, length, IsTrue};
 ghost use Rattle.std.specs.List.{prefix_len};
+ghost use Rattle.limits.specs.declared.TheConstants.{MOST_JOB_BYTES};
 ghost use Rattle.job_syntax.specs.Text.{is_brace, is_in_chunk, tokens};
 ghost use Rattle.job_syntax.specs.Code.Fronts.{begins_token, token_len};
 
@@ -63,7 +64,7 @@ impl<'a> Scanner<'a> {
 
     /// A scanner at the front of a text, on line 1.
     pub(crate) fn new(text: &'a [u8]) -> Scanner<'a>
-        requires { length text.now ≤ 1048576 }
+        requires { length text.now ≤ MOST_JOB_BYTES }
         ensures { tokens_left result ≡ tokens text.now }
     {
         Scanner { text, line: 1 }

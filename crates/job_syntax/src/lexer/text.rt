@@ -1,5 +1,6 @@
 //! The bytes of a text: its lines, its comments, and its first byte that is not allowed.
 ghost use Rattle.std.specs.Prelude.{◌≡◌, ◌≤◌, length};
+ghost use Rattle.limits.specs.declared.TheConstants.{MOST_JOB_BYTES};
 ghost use Rattle.job_syntax.specs.Text.{is_allowed, forbidden_line, last_line};
 ghost use Rattle.job_syntax.specs.Code.Fronts.{behind_comment};
 
@@ -27,7 +28,7 @@ pub(crate) fn behind_comment(text: &[u8]) -> &[u8]
 
 /// The line of the first byte outside comments that is not allowed, if any. Lines count from 1.
 pub fn forbidden_line(text: &[u8]) -> Option<u32>
-    requires { length text.now ≤ 1048576 }
+    requires { length text.now ≤ MOST_JOB_BYTES }
     ensures { result ≡ forbidden_line text.now }
 {
     let mut line = 1;
@@ -53,7 +54,7 @@ pub fn forbidden_line(text: &[u8]) -> Option<u32>
 
 /// The number of a text's last line. Lines count from 1.
 pub(crate) fn last_line(text: &[u8]) -> u32
-    requires { length text.now ≤ 1048576 }
+    requires { length text.now ≤ MOST_JOB_BYTES }
     ensures { result ≡ last_line text.now }
 {
     let mut line = 1;

@@ -1,5 +1,6 @@
 //! A cursor over the words of a text that are left to read.
 ghost use Rattle.std.specs.Prelude.{◌≡◌, ◌≤◌, [], ◌∷◌, Ok, Err, MatchOption, MatchResult, length};
+ghost use Rattle.limits.specs.declared.TheConstants.{MOST_JOB_BYTES};
 ghost use Rattle.job_syntax.specs.Words.{words_on_lines};
 
 use crate::fault::JobFault;
@@ -10,10 +11,8 @@ use crate::lexer::word_of::word_of;
 use crate::parser::blocks::BlockStack;
 use crate::parser::call::{Object, Operator, object_of};
 use job_names::Name;
+use limits::MOST_OPEN_BLOCKS;
 use std::marker::Model;
-
-/// The most blocks that may be open at once.
-const MAX_OPEN_BLOCKS: usize = 32;
 
 /// The words of a text that are left to read, each made of its token as it is taken. Contracts see their list. All
 /// methods but `next` take the word that must come next, or answer the fault that they find. At the end of the words
@@ -37,7 +36,7 @@ impl<'a> Model for Cursor<'a> {
 impl<'a> Cursor<'a> {
     /// A cursor before the first word of a text.
     pub fn new(text: &'a [u8]) -> Cursor<'a>
-        requires { length text.now ≤ 1048576 }
+        requires { length text.now ≤ MOST_JOB_BYTES }
         ensures { result ≡ words_on_lines text.now }
     {
         Cursor {
@@ -176,7 +175,7 @@ impl<'a> Cursor<'a> {
             return Err(JobFault::Grammar { line: last });
         };
         match token.word {
-            Word::Open if open_now >= MAX_OPEN_BLOCKS => Err(JobFault::Nesting {
+            Word::Open if open_now >= MOST_OPEN_BLOCKS as usize => Err(JobFault::Nesting {
                 line: token.line,
             }),
             Word::Open => Ok(()),

@@ -1,21 +1,22 @@
 -- The tokens that are the words of kinds and verbs, and the word of a kind with a name.
-use Rattle.std.proofs.Common.{◌≡◌, ℕ, List, [], ◌∷◌, ◌++◌, Bool, true, false, Option, Some, None, take, drop, codes, refl, sym, ap, ◌∙◌, eqb-true, true≢false, cond}
+use Rattle.std.proofs.Common.{◌≡◌, ℕ, List, [], ◌∷◌, ◌++◌, Bool, true, false, Option, Some, None, take, drop, codes, refl, sym, ap, ◌∙◌, eqb-true, true≢false}
 use Rattle.std.specs.Prelude.{◌&&◌, ◌==◌, if◌then◌else◌, IsTrue, IfSome, option_map, unwrap_or}
 use Rattle.std.specs.Option.{option_or}
-use Rattle.std.specs.List.{find, list_all}
+use Rattle.std.specs.List.{find}
 use Rattle.std.specs.Str.{bytes_eq}
 use Rattle.job_names.specs.declared.name.Name.{Name}
 use Rattle.job_names.specs.Names.{is_spelled, name_of}
 use Rattle.seq_objects.specs.declared.verb.VerbWord.{VerbWord}
+use Rattle.seq_objects.specs.declared.verb.VerbWord.TheVariants as word
 use Rattle.seq_objects.specs.declared.verb.Verb.{Verb as ObjectVerb}
-use Rattle.seq_objects.specs.declared.verb.Verb.TheVariants as verbs
+use Rattle.seq_objects.specs.declared.verb.Verb.TheVariants.{CounterAdd}
+use Rattle.seq_objects.specs.declared.kind.Kind.TheVariants.{Counter}
 use Rattle.seq_objects.specs.declared.kind.Kind.{Kind}
-use Rattle.seq_objects.specs.declared.kind.Kind.TheVariants.{Counter, Stack, Tree, Queue}
-use Rattle.seq_objects.specs.Verbs.{kind_of_verb, kinds, verb_words, kind_text, word_text, kind_by_text, word_by_text}
+use Rattle.seq_objects.specs.Verbs.{kind_of_verb, verbs, kind_text, word_text, kind_by_text, word_by_text, same_kind}
 use Rattle.job_syntax.specs.declared.lexer.word.Word.{Word}
 use Rattle.job_syntax.specs.declared.lexer.word.Word.TheVariants.{Open, Close, Work, Object, Verb, Seq, Par, For, Pfor, Let, Equals, Number, Copies, Named, Other}
 use Rattle.job_syntax.specs.Words.{are_digits, number_of, before_first, behind_first, copies_word, kind_named, kind_word, object_word, argument_word, own_word, table_word, quoted_word, word_of, IsKindWord}
-use Rattle.seq_objects.proofs.Verbs.{kind_found, kind_has_text, word_found}
+use Rattle.seq_objects.proofs.Verbs.{kind_has_text}
 
 -- the name that a word has
 abbrev name_in : Word → Option Name
@@ -113,47 +114,23 @@ and_false false = refl
 
 named_said : (kind : Kind) (name : List ℕ) → IsTrue (is_spelled name) → word_of (kind_text kind ++ 58 ∷ name) ≡ Object kind (Some (name_of name))
 named_said Counter name spelled = simp (and_false, spelled) refl
-named_said Stack name spelled = simp (and_false, spelled) refl
-named_said Tree name spelled = simp (and_false, spelled) refl
-named_said Queue name spelled = simp (and_false, spelled) refl
+named_said _ name spelled = simp (and_false, spelled) refl
 
 pub kind_takes_names : (kind : Kind) → IsKindWord kind
 kind_takes_names kind = record { said = λ name spelled. named_said kind name spelled; alone = λ text name e. spells text e }
 
--- what a test says of all of a list, it says of what is found in it
-found_says : {X : Type 0} (test says : X → Bool) (xs : List X) (x : X) → find test xs ≡ Some x → list_all says xs ≡ true → says x ≡ true
-found_says test says [] x e all = cc
-found_says test says (first ∷ xs) x e all = step (test first) (says first) refl e all (found_says test says xs x) where
-  step : (found said : Bool) → says first ≡ said → cond found (Some first) (find test xs) ≡ Some x → (said && list_all says xs) ≡ true → (find test xs ≡ Some x → list_all says xs ≡ true → says x ≡ true) → says x ≡ true
-  step true true is e all later = let same : first ≡ x = cc e in sym (ap says same) ∙ is
-  step false true is e all later = later e all
-  step found false is e all later = cc
-
-abbrev is_none : Option Word → Bool
-is_none None = true
-is_none (Some word) = false
-
-none_then : (found : Option Word) (second : Option Word) (other : Word) → is_none found ≡ true → unwrap_or (option_or found second) other ≡ unwrap_or second other
-none_then None second other e = refl
-none_then (Some word) second other e = cc
-
 pub kind_said : (kind : Kind) → word_of (kind_text kind) ≡ Object kind None
-kind_said kind =
-    let none = found_says (λ other. bytes_eq (kind_text kind) (kind_text other)) (λ kind. is_none (own_word (kind_text kind))) kinds kind (kind_found kind) refl in
-    none_then (own_word (kind_text kind)) (table_word (kind_text kind)) (argument_word (kind_text kind)) none
-    ∙ ap (λ found. unwrap_or (option_or (option_map (λ kind. Object kind None) found) (option_map (λ verb. Verb verb) (word_by_text (kind_text kind)))) (argument_word (kind_text kind))) (kind_found kind)
+kind_said Counter = refl
+kind_said _ = refl
 
 pub verb_said : (spelled : VerbWord) → word_of (word_text spelled) ≡ Verb spelled
-verb_said spelled =
-    let own = found_says (λ other. bytes_eq (word_text spelled) (word_text other)) (λ word. is_none (own_word (word_text word))) verb_words spelled (word_found spelled) refl in
-    let none = found_says (λ other. bytes_eq (word_text spelled) (word_text other)) (λ word. is_none (option_map (λ kind. Object kind None) (kind_by_text (word_text word)))) verb_words spelled (word_found spelled) refl in
-    none_then (own_word (word_text spelled)) (table_word (word_text spelled)) (argument_word (word_text spelled)) own
-    ∙ none_then (option_map (λ kind. Object kind None) (kind_by_text (word_text spelled))) (option_map (λ verb. Verb verb) (word_by_text (word_text spelled))) (argument_word (word_text spelled)) none
-    ∙ ap (λ found. unwrap_or (option_map (λ verb. Verb verb) found) (argument_word (word_text spelled))) (word_found spelled)
+verb_said word.Add = refl
+verb_said _ = refl
 
 -- each kind has a verb
-pub verb_for : (kind : Kind) → (verb : ObjectVerb) × (kind_of_verb verb ≡ kind)
-verb_for Counter = (verbs.CounterAdd, refl)
-verb_for Stack = (verbs.Pop, refl)
-verb_for Tree = (verbs.TreeFind, refl)
-verb_for Queue = (verbs.PqTake, refl)
+abbrev pub verb_for : Kind → ObjectVerb
+verb_for kind = unwrap_or (find (λ verb. same_kind (kind_of_verb verb) kind) verbs) CounterAdd
+
+pub verb_for_kind : (kind : Kind) → kind_of_verb (verb_for kind) ≡ kind
+verb_for_kind Counter = refl
+verb_for_kind _ = refl

@@ -18,7 +18,7 @@ use Rattle.job_syntax.specs.Code.Machine.{OpenBlock, Place, an_item, a_let_name,
 use Rattle.job_syntax.proofs.ParserLemmas.Derivations.{words_then}
 use Rattle.job_syntax.proofs.ParserLemmas.Runs.{run-none, run-append, run_derived}
 use Rattle.job_syntax.proofs.ParserLemmas.Reached.{opening_words, AreBlocks, IsReached, start_reached, fits-then, moved, added_zero, reach, reach_verb, reach_brace}
-use Rattle.job_syntax.proofs.LexerLemmas.KindWords.{verb_said, verb_for}
+use Rattle.job_syntax.proofs.LexerLemmas.KindWords.{verb_said, verb_for, verb_for_kind}
 
 -- the items after each open block is closed
 abbrev completed : List OpenBlock → Items → Items
@@ -75,9 +75,9 @@ goes_on_verb words blocks items given of verb false reached = goes_on_item reach
 
 goes_on_call : {words : List Word} {blocks : List OpenBlock} {items : Items} (given : Option Name) (of : Object) → IsReached words (at blocks items (a_call given of)) → CanGoOn words
 goes_on_call {words} {blocks} {items} given of reached =
-    let verb = (verb_for of.kind).0 in
+    let verb = verb_for of.kind in
     let spelled = word.Verb (word_of_verb verb) in
-    let next = reach_verb given of spelled verb reached (ap (λ kind. word.Object kind of.name ∷ spelled ∷ []) (sym (verb_for of.kind).1)) (takes_argument verb) refl in
+    let next = reach_verb given of spelled verb reached (ap (λ kind. word.Object kind of.name ∷ spelled ∷ []) (sym (verb_for_kind of.kind))) (takes_argument verb) refl in
     goes_on_by words (word_text (word_of_verb verb))
     (subst (λ last. CanGoOn (words ++ last ∷ [])) (sym (verb_said (word_of_verb verb))) (goes_on_verb (words ++ spelled ∷ []) blocks items given of verb (takes_argument verb) next))
 

@@ -66,8 +66,7 @@ both_names ns ms xs ys e f = ap (λ n. n ++ ms) e ∙ ap (λ m. map (λ (l : Let
 
 leaf_names : (at : ℕ) (leaf : Leaf) → names_of leaf ≡ map (λ (l : Let). l.name) (lets_of at leaf)
 leaf_names at (work argument) = refl
-leaf_names at (call verb object argument) = refl
-leaf_names at (bound name leaf) = refl
+leaf_names at _ = refl
 
 behind_names : (at : ℕ) (items : Items) → names_behind items ≡ map (λ (l : Let). l.name) (lets_behind at items)
 behind_names at nothing = refl

@@ -116,14 +116,7 @@ at_end : (last : ℕ) (before : List WordOnLine) (blocks : List OpenBlock) (item
 at_end last before [] items an_item stands =
     (record { writes = simp append-nil at stands.reached.writes ∙ ap words_of (sym (append-nil before)); fits = stands.reached.items }, tt)
 at_end last before (block ∷ blocks) items an_item stands = (refl, no_blocks before (block ∷ blocks) items an_item stands.runs (λ e. cc))
-at_end last before blocks items a_let_name stands = (refl, no_place before blocks items a_let_name stands.runs (λ e. cc))
-at_end last before blocks items (an_equals name) stands = (refl, no_place before blocks items (an_equals name) stands.runs (λ e. cc))
-at_end last before blocks items (a_let_object name) stands = (refl, no_place before blocks items (a_let_object name) stands.runs (λ e. cc))
-at_end last before blocks items (an_argument given op) stands = (refl, no_place before blocks items (an_argument given op) stands.runs (λ e. cc))
-at_end last before blocks items (a_call given of) stands = (refl, no_place before blocks items (a_call given of) stands.runs (λ e. cc))
-at_end last before blocks items for_copies stands = (refl, no_place before blocks items for_copies stands.runs (λ e. cc))
-at_end last before blocks items pfor_copies stands = (refl, no_place before blocks items pfor_copies stands.runs (λ e. cc))
-at_end last before blocks items (a_brace kind) stands = (refl, no_place before blocks items (a_brace kind) stands.runs (λ e. cc))
+at_end last before blocks items place stands = (refl, no_place before blocks items place stands.runs (λ e. cc))
 
 -- the run over one more token
 run-push : (before : List WordOnLine) (state : State) (token : WordOnLine) (to : Option State) → run (Some start) (words_of before) ≡ Some state → step state token.word ≡ to →

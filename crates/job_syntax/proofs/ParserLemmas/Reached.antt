@@ -54,9 +54,9 @@ added {words} {blocks} {items} {old} leaf last reached e fits = record {
 -- the words of a leaf whose argument is the last word, and what it needs to fit
 given_argument : (given : Option Name) (op : Operator) (last : Word) → place_words (an_argument given op) ++ last ∷ [] ≡ leaf_words (given_leaf given (with_operand op last))
 given_argument None operator.Work last = refl
-given_argument None (operator.Call verb object) last = refl
+given_argument None _ last = refl
 given_argument (Some name) operator.Work last = refl
-given_argument (Some name) (operator.Call verb object) last = refl
+given_argument (Some name) _ last = refl
 
 fits_call : (looped : Bool) (given : Option Name) (verb : Verb) (object : Option Name) (argument : Option Word) (carries : Bool) → takes_argument verb ≡ carries → FitsVerb looped carries argument → IsLeaf looped (given_leaf given (call verb object argument))
 fits_call looped None verb object argument carries is fits = subst (λ carries. FitsVerb looped carries argument) (sym is) fits

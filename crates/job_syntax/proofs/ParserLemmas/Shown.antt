@@ -13,9 +13,9 @@ use Rattle.job_syntax.specs.declared.lexer.word.Word.TheVariants.{Named}
 use Rattle.job_syntax.specs.declared.parser.call.Operator.{Operator}
 use Rattle.job_syntax.specs.declared.parser.call.Operator.TheVariants as operator
 use Rattle.job_syntax.specs.Blocks.{name_kind}
-use Rattle.job_syntax.specs.Grammar.{items_words, Leaf, work, call, bound, BlockKind, seq_block, par_block, for_loop, pfor_loop, Items, nothing, leaf_then, block_then, is_loop, is_par}
+use Rattle.job_syntax.specs.Grammar.{items_words, Leaf, work, call, bound, BlockKind, seq_block, Items, nothing, leaf_then, block_then, is_loop, is_par}
 use Rattle.job_syntax.specs.Visibility.{Sees, is_let, ends_in_let}
-use Rattle.job_syntax.specs.Code.Machine.{OpenBlock, operator_words, State, at, are_looped, Place, an_item, a_let_name, an_equals, a_let_object, an_argument, a_call, for_copies, pfor_copies, a_brace, is_known, step_at}
+use Rattle.job_syntax.specs.Code.Machine.{OpenBlock, operator_words, State, at, are_looped, Place, a_let_name, an_argument, is_known, step_at}
 use Rattle.job_syntax.specs.Code.Reached.{IsReached, opening_words, given_words, place_words}
 use Rattle.job_syntax.specs.Code.Shown.{lets_of, lets_behind, scope_at, is_shown}
 use Rattle.job_syntax.proofs.ParserLemmas.NamesSeen.{Has, has_append, has_left, has_right, names_of, names_behind, names_seen, flat_items, flat_blocks}
@@ -103,9 +103,7 @@ behind_from (block_then kind body more) name h =
 
 par_same : (kind : BlockKind) → names.is_par (name_kind kind) ≡ is_par kind
 par_same seq_block = refl
-par_same par_block = refl
-par_same (for_loop n) = refl
-par_same (pfor_loop n) = refl
+par_same _ = refl
 
 pub shown_to : (blocks : List OpenBlock) (items : Items) (name : Name) → IsIn name (lets_shown (scope_at blocks items)) → Has (names_seen blocks items) name
 shown_to [] items name h = behind_to items name h
@@ -168,24 +166,11 @@ pub known_sees : (words : List Word) (blocks : List OpenBlock) (items : Items) (
 known_sees words blocks items (an_argument given op) name new reached e known ends = shown_sees words blocks items given op name reached known
 known_sees words blocks items a_let_name name new reached e known ends =
     absurd (true≢false (sym (ends_state words blocks items a_let_name reached) ∙ ends))
-known_sees words blocks items an_item name new reached e known ends = cc
-known_sees words blocks items (an_equals other) name new reached e known ends = cc
-known_sees words blocks items (a_let_object other) name new reached e known ends = cc
-known_sees words blocks items (a_call given of) name new reached e known ends = cc
-known_sees words blocks items for_copies name new reached e known ends = cc
-known_sees words blocks items pfor_copies name new reached e known ends = cc
-known_sees words blocks items (a_brace kind) name new reached e known ends = cc
+known_sees words blocks items place name new reached e known ends = cc
 
 -- One that it does not take is a use that sees none.
 pub unknown_sees_none : (words : List Word) (blocks : List OpenBlock) (items : Items) (place : Place) (name : Name) → IsReached words (at blocks items place) →
     is_known place blocks items name ≡ false → (ends_in_let false words ≡ false) × (Sees words name → ⊥)
 unknown_sees_none words blocks items (an_argument given op) name reached unknown =
     (ends_state words blocks items (an_argument given op) reached ∙ argument_ends _ given op, (λ sees. true≢false (sym (sees_shown words blocks items given op name reached sees) ∙ unknown)))
-unknown_sees_none words blocks items an_item name reached unknown = cc
-unknown_sees_none words blocks items a_let_name name reached unknown = cc
-unknown_sees_none words blocks items (an_equals other) name reached unknown = cc
-unknown_sees_none words blocks items (a_let_object other) name reached unknown = cc
-unknown_sees_none words blocks items (a_call given of) name reached unknown = cc
-unknown_sees_none words blocks items for_copies name reached unknown = cc
-unknown_sees_none words blocks items pfor_copies name reached unknown = cc
-unknown_sees_none words blocks items (a_brace kind) name reached unknown = cc
+unknown_sees_none words blocks items place name reached unknown = cc

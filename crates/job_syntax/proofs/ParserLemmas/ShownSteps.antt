@@ -5,7 +5,7 @@ use Rattle.job_names.specs.Scopes.{Scope, job, inside, with_lets, closed}
 use Rattle.job_names.specs.Scopes as names
 use Rattle.job_names.proofs.ScopeLemmas.{with_nothing}
 use Rattle.job_syntax.specs.Blocks.{name_kind}
-use Rattle.job_syntax.specs.Grammar.{Leaf, BlockKind, seq_block, par_block, for_loop, pfor_loop, Items, nothing, leaf_then, block_then, ◌then◌, is_loop}
+use Rattle.job_syntax.specs.Grammar.{Leaf, BlockKind, seq_block, Items, nothing, leaf_then, block_then, ◌then◌, is_loop}
 use Rattle.job_syntax.specs.Code.Shown.{OpenBlock, lets_of, lets_behind, scope_at}
 
 pub lets_then : (items more : Items) → lets_behind (items then more) ≡ lets_behind items ++ lets_behind more
@@ -32,9 +32,7 @@ scope_with_plain blocks items leaf none =
 
 loop_same : (kind : BlockKind) → names.is_loop (name_kind kind) ≡ is_loop kind
 loop_same seq_block = refl
-loop_same par_block = refl
-loop_same (for_loop n) = refl
-loop_same (pfor_loop n) = refl
+loop_same _ = refl
 
 pub scope_closed : (blocks : List OpenBlock) (block : OpenBlock) (items : Items) → closed (scope_at (block ∷ blocks) items) ≡ scope_at blocks (block.before then block_then block.kind items nothing)
 scope_closed blocks block items =

@@ -6,8 +6,7 @@ use Rattle.job_names.specs.declared.name.Name.{Name}
 use Rattle.job_names.specs.declared.scopes.Let.{Let}
 use Rattle.job_syntax.specs.declared.lexer.word.Word.{Word}
 use Rattle.job_syntax.specs.declared.lexer.word.Word.TheVariants.{Open, Close, Seq, Par, For, Pfor, Number}
-use Rattle.job_syntax.specs.Grammar as grammar
-use Rattle.job_syntax.specs.Grammar.{Leaf, work, bound, BlockKind, seq_block, par_block, for_loop, pfor_loop, Items, nothing, leaf_then, block_then, leaf_words, kind_words, items_words, is_number, is_loop, is_par, IsCall, IsLeaf, IsBlockKind}
+use Rattle.job_syntax.specs.Grammar.{Leaf, bound, BlockKind, seq_block, par_block, for_loop, pfor_loop, Items, nothing, leaf_then, block_then, leaf_words, kind_words, items_words, is_number, is_loop, is_par, IsCall, IsLeaf, IsBlockKind}
 use Rattle.job_syntax.specs.Visibility.{blocks_behind, closed_by, is_in_series, Sees}
 use Rattle.job_syntax.specs.Code.Shown.{OpenBlock}
 use Rattle.job_syntax.specs.Code.Reached.{opening_words}
@@ -58,9 +57,7 @@ closed_kind (pfor_loop copies) rest h = closed_number copies (Open ∷ rest) h
 
 pub open_kind : (kind : BlockKind) (blocks : List BlockKind) (rest : List Word) → blocks_behind blocks (kind_words kind ++ Open ∷ rest) ≡ blocks_behind (kind ∷ blocks) rest
 open_kind seq_block blocks rest = refl
-open_kind par_block blocks rest = refl
-open_kind (for_loop n) blocks rest = refl
-open_kind (pfor_loop n) blocks rest = refl
+open_kind _ blocks rest = refl
 
 -- items close what they open
 pub closed_items : (items : Items) (rest : List Word) → AreFlat items → closed_by (items_words items ++ rest) ≡ closed_by rest
@@ -180,8 +177,7 @@ at_leaf at name call more place whole is e = record {
 place_leaf : (at : ℕ) (leaf : Leaf) (more : Items) (name : Name) (place : ℕ) → IsLeaf true leaf → AreFlat more → HasLet (lets_of at leaf) name place → Place at (leaf_then leaf more) name place
 place_leaf at (bound given leaf) more name place fits is (inl same) = subst (λ n. Place at (leaf_then (bound given leaf) more) n place) same.0 (at_leaf at given leaf more place fits is same.1)
 place_leaf at (bound given leaf) more name place fits is (inr never) = absurd never
-place_leaf at (work argument) more name place fits is never = absurd never
-place_leaf at (grammar.call verb object argument) more name place fits is never = absurd never
+place_leaf at _ more name place fits is never = absurd never
 
 place_block : (at : ℕ) (kind : BlockKind) (body more : Items) (name : Name) (place : ℕ) (loop : Bool) (lets : List Let) → is_loop kind ≡ loop → AreFlat body → AreFlat more
     → (HasLet lets name place → Place (at + length (kind_words kind ++ Open ∷ [])) body name place) → HasLet (if loop then [] else lets) name place → Place at (block_then kind body more) name place

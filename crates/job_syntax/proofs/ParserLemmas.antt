@@ -9,6 +9,7 @@ pub mod Nestings
 pub mod OneFault
 pub mod OpenStacks
 pub mod Reached
+pub mod Calls
 pub mod ReadingLaws
 pub mod Runs
 pub mod Seen

@@ -2,6 +2,7 @@
 -- what only the code cites.
 pub mod Text
 pub mod Words
+pub mod Arguments
 pub mod Grammar
 pub mod Visibility
 pub mod Faults

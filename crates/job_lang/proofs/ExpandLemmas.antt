@@ -1,3 +1,4 @@
+pub mod Blocks
 pub mod Copies
 pub mod Joining
 pub mod Leaves

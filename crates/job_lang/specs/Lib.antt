@@ -3,6 +3,7 @@
 pub use Rattle.job_syntax.specs.Text
 pub use Rattle.job_syntax.specs.Words
 pub use Rattle.job_syntax.specs.Grammar
+pub use Rattle.job_syntax.specs.Arguments
 pub use Rattle.job_syntax.specs.Faults
 pub use Rattle.job_syntax.specs.ItemsOf
 pub mod Counts

@@ -4,9 +4,10 @@ use Rattle.std.specs.Prelude.{◌≡◌, ℕ, ◌+◌, ◌-◌, ◌*◌, ◌<◌
 use Rattle.job_syntax.specs.declared.lexer.word.Word.{Word}
 use Rattle.job_syntax.specs.declared.lexer.word.Word.TheVariants.{Copies}
 use Rattle.job_syntax.specs.declared.lexer.word.WordOnLine.{WordOnLine}
-use Rattle.job_syntax.specs.Grammar.{Items, nothing, leaf_then, block_then, BlockKind, seq_block, par_block, for_loop, pfor_loop, Leaf, with_argument, bound, items_words, ◌then◌}
+use Rattle.job_syntax.specs.Grammar.{Items, nothing, leaf_then, block_then, BlockKind, seq_block, par_block, for_loop, pfor_loop, Leaf, items_words, ◌then◌}
 use Rattle.job_syntax.specs.Faults.{words_of}
 use Rattle.job_syntax.specs.Blocks.{word_number}
+use Rattle.job_syntax.specs.Arguments.{leaf_argument}
 use Rattle.job_lang.specs.Counts.{count, count_first}
 
 -- The line of the first token of the first top-level item with which the leaves are more than 20,000.
@@ -36,10 +37,12 @@ is_out_of_range copies by = nat_le 1 copies && nat_le (2 ^ 32) (by.0 * (copies -
 
 -- for each argument that depends on the copy, in the order of the text, whether it is out of range; `copies` is the
 -- number of copies of the innermost loop
+abbrev pub argument_range_flags : ℕ → Option Word → List Bool
+argument_range_flags copies (Some (Copies (Some by))) = is_out_of_range copies by ∷ []
+argument_range_flags copies _ = []
+
 abbrev pub leaf_range_flags : ℕ → Leaf → List Bool
-leaf_range_flags copies (with_argument op (Copies (Some by))) = is_out_of_range copies by ∷ []
-leaf_range_flags copies (bound name call) = leaf_range_flags copies call
-leaf_range_flags copies _ = []
+leaf_range_flags copies leaf = argument_range_flags copies (leaf_argument leaf)
 
 abbrev pub range_flags : ℕ → Items → List Bool
 range_flags copies nothing = []

@@ -5,12 +5,13 @@ use Rattle.job_names.specs.declared.name.Name.{Name}
 use Rattle.job_names.specs.Names.{same_name, name_of, spelling}
 use Rattle.seq_objects.specs.declared.act.Act.{Act}
 use Rattle.seq_objects.specs.declared.act.Act.TheVariants.{Work, Call}
-use Rattle.seq_objects.specs.Batches.{ObjectKind, same_kind, kind_of}
-use Rattle.seq_objects.specs.Objects.{number_of}
+use Rattle.seq_objects.specs.declared.kind.Kind.{Kind}
+use Rattle.seq_objects.specs.Verbs.{same_kind}
+use Rattle.seq_objects.specs.Parts.{kind_of, number_of}
 
 -- an object that a leaf names
 pub record NamedObject : Type 0 where
-  pub kind : ObjectKind
+  pub kind : Kind
   pub name : Name
 
 abbrev pub same_object : NamedObject → NamedObject → Bool
@@ -44,7 +45,7 @@ abbrev pub names_of : List (Option NamedObject) → List (List ℕ)
 names_of leaves = map (λ object. spelling object.name) (named_by leaves)
 
 -- the object of a kind with this number, by the names of the numbers 1, 2, and so on; the number 0 has none
-abbrev pub object_numbered : List (List ℕ) → ObjectKind → ℕ → Option NamedObject
+abbrev pub object_numbered : List (List ℕ) → Kind → ℕ → Option NamedObject
 object_numbered names kind zero = None
 object_numbered names kind (suc place) = Some (record { kind = kind; name = name_of (slice_index_or names place []) })
 

@@ -3,11 +3,11 @@ use Rattle.std.specs.Prelude.{◌≡◌, ℕ, ◌+◌, ◌-◌, ◌≤◌, List,
 use Rattle.job_names.specs.declared.name.Name.{Name}
 use Rattle.seq_objects.specs.declared.act.Act.{Act}
 use Rattle.job_syntax.specs.declared.lexer.word.Word.{Word}
-use Rattle.job_syntax.specs.declared.lexer.word.Word.TheVariants.{Open, Named}
-use Rattle.job_syntax.specs.Blocks.{copies_of}
-use Rattle.job_syntax.specs.Grammar.{Items, nothing, leaf_then, block_then, Leaf, with_argument, bound, leaf_words, kind_words, items_words, is_loop}
+use Rattle.job_syntax.specs.declared.lexer.word.Word.TheVariants.{Open}
+use Rattle.job_syntax.specs.Grammar.{Items, nothing, leaf_then, block_then, BlockKind, Leaf, bound, leaf_words, kind_words, items_words, is_loop}
 use Rattle.job_syntax.specs.Visibility.{Sees}
-use Rattle.job_lang.specs.Meaning.{act_of, each_copy}
+use Rattle.job_syntax.specs.Arguments.{name_used}
+use Rattle.job_lang.specs.Meaning.{act_of, in_block}
 
 -- A leaf of the job, and where it comes from: the item of the text that makes it, how many words stand before this item,
 -- and the copy in which the leaf is of each loop around it, the outermost loop first.
@@ -16,6 +16,10 @@ pub record PlacedLeaf : Type 0 where
   pub before : ℕ
   pub copies : List ℕ
 
+-- the copies around the items of a block, in its copy `copy`
+abbrev pub with_copy : BlockKind → List ℕ → ℕ → List ℕ
+with_copy kind copies copy = if is_loop kind then copies ++ copy ∷ [] else copies
+
 -- The leaves of items that stand behind `before` words, in these copies of the loops around them: from left to right,
 -- copy by copy.
 abbrev pub placed_in : ℕ → List ℕ → Items → List PlacedLeaf
@@ -23,9 +27,7 @@ placed_in before copies nothing = []
 placed_in before copies (leaf_then leaf more) =
     record { leaf = leaf; before = before; copies = copies } ∷ placed_in (before + length (leaf_words leaf)) copies more
 placed_in before copies (block_then kind body more) =
-    (if is_loop kind
-    then each_copy (copies_of kind) (λ k. placed_in (before + length (kind_words kind ++ Open ∷ [])) (copies ++ k ∷ []) body)
-    else placed_in (before + length (kind_words kind ++ Open ∷ [])) copies body)
+    in_block kind 0 (λ k. placed_in (before + length (kind_words kind ++ Open ∷ [])) (with_copy kind copies k) body)
     ++ placed_in (before + length (items_words (block_then kind body nothing))) copies more
 
 abbrev pub placed_leaves : Items → List PlacedLeaf
@@ -39,12 +41,6 @@ innermost copy (inner ∷ copies) = innermost inner copies
 -- what the leaf does, where each object has the number 0
 abbrev pub act_at : PlacedLeaf → Act
 act_at at = act_of (innermost 0 at.copies) at.leaf
-
--- the name that a leaf uses, if its argument is a name
-abbrev pub name_used : Leaf → Option Name
-name_used (with_argument op (Named name)) = Some name
-name_used (bound name call) = name_used call
-name_used _ = None
 
 -- the words before the argument of a leaf, which is the last word of its item
 abbrev pub before_argument : List Word → PlacedLeaf → List Word

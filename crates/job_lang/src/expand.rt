@@ -3,11 +3,11 @@ ghost use Rattle.std.specs.Prelude.{◌≡◌, ℕ, ◌+◌, ◌*◌, ◌<◌, �
 ghost use Rattle.sp_order.specs.Precedence.{tree_of, seq};
 ghost use Rattle.job_lang.specs.Counts.{count};
 ghost use Rattle.job_syntax.specs.Grammar.{block_then, nothing, AreItems};
-ghost use Rattle.job_lang.specs.Meaning.{each_copy, join_list, objects_in, shapes_in, job_of};
+ghost use Rattle.job_lang.specs.Meaning.{each_copy, join_in, join_list, objects_in, shapes_in, job_of};
 ghost use Rattle.job_lang.specs.Code.Numbered.{AreSpelled};
 ghost use Rattle.job_lang.specs.Code.Scoped.{Adds, AddsCopies, AreKept};
 ghost use Rattle.job_lang.specs.Orders.{join_by};
-ghost use Rattle.job_lang.specs.Code.Orders.{join_in, shapes_inside};
+ghost use Rattle.job_lang.specs.Code.Orders.{shapes_inside};
 ghost use Rattle.job_lang.specs.Code.Ranges.{Fits};
 ghost use Rattle.job_syntax.specs.Views.{block_kind_of, item_of, items_of};
 

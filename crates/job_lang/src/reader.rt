@@ -6,7 +6,7 @@ ghost use Rattle.job_syntax.specs.declared.fault.JobFault.{JobFault};
 ghost use Rattle.job_syntax.specs.declared.error.JobErr.TheVariants.{Bad, Memory};
 
 use crate::expand::expand;
-use crate::limits::{argument_line, leaves_line};
+use crate::text_limits::{argument_line, leaves_line};
 use job_syntax::{JobErr, JobFault, forbidden_line, read_items};
 use sp_order::Job;
 use std::alloc::Global;

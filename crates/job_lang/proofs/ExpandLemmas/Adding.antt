@@ -19,7 +19,8 @@ use Rattle.job_lang.specs.Meaning.{acts_in, sources_in, object_of, objects_in, e
 use Rattle.job_lang.specs.Code.Numbered.{AreListed, NamesBehind}
 use Rattle.job_lang.specs.Code.Scoped.{lets_behind, scoped_sources, AreKept, Adds, AddsCopies}
 use Rattle.job_lang.proofs.ExpandLemmas.Copies.{acts_then, each_leaf_then}
-use Rattle.job_lang.proofs.ExpandLemmas.Leaves.{acts_count, each_length, each_leaf_count}
+use Rattle.job_lang.proofs.ExpandLemmas.Blocks.{each_length}
+use Rattle.job_lang.proofs.ExpandLemmas.Leaves.{acts_count, each_leaf_count}
 use Rattle.job_lang.proofs.ExpandLemmas.Listing.{behind_both}
 use Rattle.job_lang.proofs.ExpandLemmas.Scoped.{sources_then, scope_behind_then, job_sources}
 use Rattle.job_lang.proofs.LimitLemmas.Cuts.{count_then, count_more}
@@ -125,12 +126,8 @@ adds_for_loop c n body old new h = adds_for c (for_loop (Number (Some n))) n bod
 pub adds_pfor_loop : (c n : ℕ) (body : Items) (old new : Leaves) → AddsCopies n body old new → Adds c (block_then (pfor_loop (Number (Some n))) body nothing) old new
 adds_pfor_loop c n body old new h = adds_for c (pfor_loop (Number (Some n))) n body old new h refl (λ scope first. refl) refl (λ first. refl)
 
-each_count : (n : ℕ) (body : Items) → length (each_copy n (λ k. acts_in k body)) ≡ n * count body
-each_count zero body = omega arith
-each_count (suc n) body = simp length-append (omega (arith, each_count n body, acts_count body n))
-
 pub copies_count : (n : ℕ) (body : Items) (old new : Leaves) → AddsCopies n body old new → length new.acts.items ≡ length old.acts.items + n * count body
-copies_count n body old new h = ap length h.acts ∙ length-append old.acts.items (each_copy n (λ k. acts_in k body)) ∙ ap (λ m. length old.acts.items + m) (each_count n body)
+copies_count n body old new h = ap length h.acts ∙ length-append old.acts.items (each_copy n (λ k. acts_in k body)) ∙ ap (λ m. length old.acts.items + m) (each_length n (count body) (λ k. acts_in k body) (λ k. acts_count body k))
 
 one_more_copy_at : (block : BlockKind) (n : ℕ) (body : Items) (old now opened filled new : Leaves) → name_kind block ≡ kind.Loop → AddsCopies n body old now → InBlock block n body now opened filled new → AddsCopies (suc n) body old new
 one_more_copy_at block n body old now opened filled new loop f h =

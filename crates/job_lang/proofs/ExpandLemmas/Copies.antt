@@ -3,7 +3,7 @@ use Rattle.std.proofs.Common.{◌≡◌, ℕ, zero, suc, ◌+◌, ◌<◌, List,
 use Rattle.sp_order.specs.Precedence.{Tree}
 use Rattle.job_syntax.specs.declared.item.Item.{Item, Block}
 use Rattle.job_syntax.specs.declared.item.BlockKind.{BlockKind as CodeBlockKind}
-use Rattle.job_syntax.specs.Grammar.{Items, nothing, leaf_then, block_then, seq_block, par_block, for_loop, pfor_loop, ◌then◌, Leaf}
+use Rattle.job_syntax.specs.Grammar.{Items, nothing, leaf_then, block_then, ◌then◌, Leaf}
 use Rattle.job_lang.specs.Meaning.{shapes_in, acts_in, each_leaf}
 use Rattle.job_lang.specs.Code.Ranges.{Fits}
 use Rattle.job_syntax.specs.Views.{items_of, item_of, block_kind_of}
@@ -12,34 +12,22 @@ use Rattle.job_syntax.proofs.ParserLemmas.Levels.{items_of_more, item_of_block}
 pub shapes_then : (c : ℕ) (a b : Items) → shapes_in c (a then b) ≡ shapes_in c a ++ shapes_in c b
 shapes_then c nothing b = refl
 shapes_then c (leaf_then l a) b = simp (shapes_then c a b) refl
-shapes_then c (block_then seq_block x a) b = simp (shapes_then c a b, append_assoc) refl
-shapes_then c (block_then par_block x a) b = simp (shapes_then c a b, append_assoc) refl
-shapes_then c (block_then (for_loop n) x a) b = simp (shapes_then c a b, append_assoc) refl
-shapes_then c (block_then (pfor_loop n) x a) b = simp (shapes_then c a b, append_assoc) refl
+shapes_then c (block_then kind x a) b = simp (shapes_then c a b, append_assoc) refl
 
 pub acts_then : (c : ℕ) (a b : Items) → acts_in c (a then b) ≡ acts_in c a ++ acts_in c b
 acts_then c nothing b = refl
 acts_then c (leaf_then l a) b = simp (acts_then c a b) refl
-acts_then c (block_then seq_block x a) b = simp (acts_then c a b, append_assoc) refl
-acts_then c (block_then par_block x a) b = simp (acts_then c a b, append_assoc) refl
-acts_then c (block_then (for_loop n) x a) b = simp (acts_then c a b, append_assoc) refl
-acts_then c (block_then (pfor_loop n) x a) b = simp (acts_then c a b, append_assoc) refl
+acts_then c (block_then kind x a) b = simp (acts_then c a b, append_assoc) refl
 
 pub each_leaf_then : {X : Type 0} (rule : Leaf → X) (a b : Items) → each_leaf rule (a then b) ≡ each_leaf rule a ++ each_leaf rule b
 each_leaf_then rule nothing b = refl
 each_leaf_then rule (leaf_then l a) b = simp (each_leaf_then rule a b) refl
-each_leaf_then rule (block_then seq_block x a) b = simp (each_leaf_then rule a b, append_assoc) refl
-each_leaf_then rule (block_then par_block x a) b = simp (each_leaf_then rule a b, append_assoc) refl
-each_leaf_then rule (block_then (for_loop n) x a) b = simp (each_leaf_then rule a b, append_assoc) refl
-each_leaf_then rule (block_then (pfor_loop n) x a) b = simp (each_leaf_then rule a b, append_assoc) refl
+each_leaf_then rule (block_then kind x a) b = simp (each_leaf_then rule a b, append_assoc) refl
 
 fits_then : (c : ℕ) (a b : Items) → Fits c (a then b) → Fits c a × Fits c b
 fits_then c nothing b h = (tt, h)
 fits_then c (leaf_then l a) b h = let k = fits_then c a b h.1 in ((h.0, k.0), k.1)
-fits_then c (block_then seq_block x a) b h = let k = fits_then c a b h.1 in ((h.0, k.0), k.1)
-fits_then c (block_then par_block x a) b h = let k = fits_then c a b h.1 in ((h.0, k.0), k.1)
-fits_then c (block_then (for_loop n) x a) b h = let k = fits_then c a b h.1 in ((h.0, k.0), k.1)
-fits_then c (block_then (pfor_loop n) x a) b h = let k = fits_then c a b h.1 in ((h.0, k.0), k.1)
+fits_then c (block_then kind x a) b h = let k = fits_then c a b h.1 in ((h.0, k.0), k.1)
 
 fits_at : (c : ℕ) (xs : List Item) (i : ℕ) (d : Item) → Fits c (items_of xs) → i < length xs → Fits c (item_of (get_or xs i d))
 fits_at c [] i d h k = absurd (omega (arith, k))

@@ -4,12 +4,10 @@ use Rattle.std.specs.Prelude.{option_to_list}
 use Rattle.sp_order.specs.Precedence.{Tree, leaf, seq, par, leaves, leaf_count, IsBeforeFrom}
 use Rattle.job_lang.specs.Joins.{join_within, join_of, both, half}
 use Rattle.job_lang.specs.Meaning.{join_list}
+use Rattle.job_lang.proofs.ExpandLemmas.Leaves.{total_is, total_append}
+use Rattle.job_lang.proofs.ExpandLemmas.Leaves as count
 use Rattle.job_lang.proofs.ExpandLemmas.Before.{total, kind_by, IsBeforeIn, IsBeforeOpt}
 use Rattle.std.proofs.lemmas.Bool.{cases_lt}
-
-pub total_append : (xs ys : List Tree) → total (xs ++ ys) ≡ total xs + total ys
-total_append [] ys = omega arith
-total_append (x ∷ xs) ys = omega (arith, total_append xs ys)
 
 -- u stands in the first m leaves, and v in the k leaves behind them
 abbrev pub Cross : Bool → ℕ → ℕ → ℕ → ℕ → ℕ → Type 0
@@ -66,27 +64,8 @@ adds : (series : Bool) (a b : Tree) → leaves (kind_by series a b) ≡ leaves a
 adds true a b = refl
 adds false a b = refl
 
-both_leaves : (series : Bool) (a b : Option Tree) → IsSome a → IsSome b → IsSome (both (kind_by series) a b) × (leaf_count (both (kind_by series) a b) ≡ leaf_count a + leaf_count b)
-both_leaves series None b some some' = cc
-both_leaves series (Some a) None some some' = cc
-both_leaves series (Some a) (Some b) some some' = (refl, adds series a b)
-
-total_halves : (xs : List Tree) (i : ℕ) → total (take i xs) + total (drop i xs) ≡ total xs
-total_halves xs i = sym (total_append (take i xs) (drop i xs)) ∙ ap total (take-append-drop i xs)
-
 join_within_leaves : (series : Bool) (n : ℕ) (xs : List Tree) → length xs ≤ n → (0 < length xs → IsSome (join_within (kind_by series) n xs)) × (leaf_count (join_within (kind_by series) n xs) ≡ total xs)
-join_within_leaves series zero [] few = (λ some. absurd (omega arith), refl)
-join_within_leaves series zero (x ∷ xs) few = absurd (omega (arith, few))
-join_within_leaves series (suc n) [] few = (λ some. absurd (omega arith), refl)
-join_within_leaves series (suc n) (x ∷ []) few = (λ some. refl, omega arith)
-join_within_leaves series (suc n) (x ∷ y ∷ zs) few =
-    let kind = kind_by series in
-    let xs : List Tree = x ∷ y ∷ zs in
-    let at : ℕ = half (length xs) in
-    let front = join_within_leaves series n (take at xs) (simp length-take (omega (arith, few))) in
-    let back = join_within_leaves series n (drop at xs) (simp length-drop (omega (arith, few))) in
-    let whole = both_leaves series (join_within kind n (take at xs)) (join_within kind n (drop at xs)) (front.0 (simp length-take (omega arith))) (back.0 (simp length-drop (omega arith))) in
-    (λ some. whole.0, whole.1 ∙ ap (λ m. m + leaf_count (join_within kind n (drop at xs))) front.1 ∙ ap (λ m. total (take at xs) + m) back.1 ∙ total_halves xs at)
+join_within_leaves series n xs few = let h = count.join_within_leaves (kind_by series) (adds series) n xs few in (h.0, h.1 ∙ sym (total_is xs))
 
 both_before : (series : Bool) (first m k u v : ℕ) (a b : Option Tree) → IsSome a → IsSome b → leaf_count a ≡ m → leaf_count b ≡ k
     → IsBeforeOpt first a u v ⊎ (IsBeforeOpt (first + m) b u v ⊎ Cross series first m k u v) → IsBeforeOpt first (both (kind_by series) a b) u v
@@ -136,13 +115,6 @@ option_before series (Some shape) first u v h = inl h
 -- the same for a list of one shape, which stands in a list of either kind
 pub joined_list : (series outer : Bool) (xs : List Tree) (first u v : ℕ) → IsBeforeIn series first xs u v → IsBeforeIn outer first (join_list (kind_by series) xs) u v
 joined_list series outer xs first u v h = option_before outer (join_of (kind_by series) xs) first u v (joined_of series xs first u v h)
-
-option_total : (shape : Option Tree) → total (option_to_list shape) ≡ leaf_count shape
-option_total None = refl
-option_total (Some shape) = omega arith
-
-pub total_joined : (series : Bool) (xs : List Tree) → total (join_list (kind_by series) xs) ≡ total xs
-total_joined series xs = option_total (join_of (kind_by series) xs) ∙ (join_within_leaves series (length xs) xs (omega arith)).1
 
 -- what is before has a smaller number, and both are leaves of the shape
 pub before_is_smaller : (tree : Tree) (first u v : ℕ) → IsBeforeFrom first tree u v → (first ≤ u) × ((u < v) × (v < first + leaves tree))

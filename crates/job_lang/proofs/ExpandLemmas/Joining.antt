@@ -5,11 +5,11 @@ use Rattle.std.specs.Option.{option_map}
 use Rattle.std.proofs.Math.Seq.{take-append_seam, drop-append_seam}
 use Rattle.std.proofs.lemmas.List.{map-append, take-map, drop-map, length-map, drop-take, drop-drop}
 use Rattle.sp_order.specs.declared.shape.Shape.{Shape}
-use Rattle.sp_order.specs.Precedence.{Tree, tree_of, seq, par}
-use Rattle.job_syntax.specs.Grammar.{Items, nothing, block_then, BlockKind, seq_block, par_block, for_loop, pfor_loop}
+use Rattle.sp_order.specs.Precedence.{Tree, tree_of}
+use Rattle.job_syntax.specs.Grammar.{Items, nothing, block_then, BlockKind}
 use Rattle.job_lang.specs.Joins.{join_within, join_of, both, half}
-use Rattle.job_lang.specs.Meaning.{shapes_in, join_list}
-use Rattle.job_lang.specs.Code.Orders.{join_in, shapes_inside}
+use Rattle.job_lang.specs.Meaning.{shapes_in, join_list, join_in}
+use Rattle.job_lang.specs.Code.Orders.{shapes_inside}
 
 -- all sufficient bounds give the same join
 enough : (kind : Tree → Tree → Tree) (n m : ℕ) (xs : List Tree) → length xs ≤ n → length xs ≤ m → join_within kind n xs ≡ join_within kind m xs
@@ -99,7 +99,4 @@ joined_behind kind old now new made before is grown joined =
 
 -- what a block joins is the shape of the block
 pub joined_block : (c : ℕ) (kind : BlockKind) (body : Items) → join_list (join_in kind) (shapes_inside c kind body) ≡ shapes_in c (block_then kind body nothing)
-joined_block c seq_block body = sym (append-nil (join_list seq (shapes_in c body)))
-joined_block c par_block body = sym (append-nil (join_list par (shapes_in c body)))
-joined_block c (for_loop n) body = sym (append-nil (join_list seq (shapes_inside c (for_loop n) body)))
-joined_block c (pfor_loop n) body = sym (append-nil (join_list par (shapes_inside c (pfor_loop n) body)))
+joined_block c kind body = sym (append-nil (join_list (join_in kind) (shapes_inside c kind body)))

@@ -13,8 +13,8 @@ use Rattle.job_names.specs.Names.{spelling}
 use Rattle.seq_objects.specs.declared.act.Act.{Act}
 use Rattle.seq_objects.specs.declared.act.Act.TheVariants.{Work, Call}
 use Rattle.seq_objects.specs.declared.op.Op.{Op}
-use Rattle.seq_objects.specs.declared.op.Op.TheVariants.{CounterAdd, Push, Pop, TreeInsert, TreeRemove, TreeFind, TreeNext, PqInsert, PqTake}
-use Rattle.seq_objects.specs.Objects.{number_of}
+use Rattle.seq_objects.specs.Parts.{number_of}
+use Rattle.seq_objects.proofs.Parts.{whole}
 use Rattle.sp_order.proofs.ObjectLemmas.{most_used, number_given}
 use Rattle.sp_order.specs.Objects.{number_in, AreUnnamed, with_number, numbered, with_numbers, AreByFirstUse, AreNumbered}
 use Rattle.std.proofs.lemmas.Bool.{cases_lt}
@@ -126,15 +126,7 @@ spellings_kept (key ∷ keys) = ap (λ names. spelling key.name ∷ names) (spel
 -- Where no object is named, all numbers are 0, and the acts stay.
 
 call_stays : (op : Op) → number_of op ≡ 0 → with_number op 0 ≡ op
-call_stays (CounterAdd number addend) none = ap (λ n. CounterAdd n addend) (sym none)
-call_stays (Push number item) none = ap (λ n. Push n item) (sym none)
-call_stays (Pop number) none = ap (λ n. Pop n) (sym none)
-call_stays (TreeInsert number key) none = ap (λ n. TreeInsert n key) (sym none)
-call_stays (TreeRemove number key) none = ap (λ n. TreeRemove n key) (sym none)
-call_stays (TreeFind number key) none = ap (λ n. TreeFind n key) (sym none)
-call_stays (TreeNext number key) none = ap (λ n. TreeNext n key) (sym none)
-call_stays (PqInsert number item) none = ap (λ n. PqInsert n item) (sym none)
-call_stays (PqTake number) none = ap (λ n. PqTake n) (sym none)
+call_stays op none = ap (with_number op) (sym none) ∙ whole op
 
 act_stays : (act : Act) → number_in act ≡ 0 → numbered act 0 ≡ act
 act_stays (Work steps) none = refl

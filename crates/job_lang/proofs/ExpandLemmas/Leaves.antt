@@ -1,14 +1,15 @@
 -- A job has an act for each leaf of its shape, and as many as `count` gives for its items.
-use Rattle.std.proofs.Common.{◌≡◌, ℕ, zero, suc, ◌+◌, ◌*◌, ◌<◌, ◌≤◌, List, [], ◌∷◌, length, take, drop, Option, Some, None, IsSome, refl, ap, ◌∙◌, arith, length-take, length-drop, length-append}
+use Rattle.std.proofs.Common.{◌≡◌, ℕ, zero, suc, ◌+◌, ◌*◌, ◌<◌, ◌≤◌, List, [], ◌∷◌, ◌++◌, length, take, drop, Option, Some, None, IsSome, refl, sym, ap, ◌∙◌, arith, length-take, length-drop, length-append}
 use Rattle.std.specs.Prelude.{sum_by, option_to_list}
-use Rattle.std.proofs.lemmas.List.Sums.{sum_by-take-drop, sum_by-append, sum_by-cons}
-use Rattle.seq_objects.specs.declared.act.Act.{Act}
+use Rattle.std.proofs.lemmas.List.Sums.{sum_by-take-drop, sum_by-cons}
 use Rattle.sp_order.specs.Precedence.{Tree, leaf, seq, par, leaves, leaf_count}
 use Rattle.job_lang.specs.Joins.{join_within, join_of, both, half}
-use Rattle.job_syntax.specs.Grammar.{Items, nothing, leaf_then, block_then, seq_block, par_block, for_loop, pfor_loop, Leaf}
-use Rattle.job_syntax.specs.Blocks.{word_number}
+use Rattle.job_syntax.specs.Grammar.{Items, nothing, leaf_then, block_then, BlockKind, seq_block, par_block, for_loop, pfor_loop, Leaf}
+use Rattle.job_syntax.specs.Blocks.{word_number, copies_of}
 use Rattle.job_lang.specs.Counts.{count}
-use Rattle.job_lang.specs.Meaning.{shapes_in, acts_in, each_copy, each_leaf, join_list}
+use Rattle.job_lang.specs.Meaning.{shapes_in, acts_in, each_copy, in_block, each_leaf, join_list, join_in, copy_shapes}
+use Rattle.job_lang.proofs.ExpandLemmas.Before.{total}
+use Rattle.job_lang.proofs.ExpandLemmas.Blocks.{block_length}
 
 module _ (kind : Tree → Tree → Tree) (adds : (a b : Tree) → leaves (kind a b) ≡ leaves a + leaves b) where
   both_leaves : (a b : Option Tree) → IsSome a → IsSome b → IsSome (both kind a b) × (leaf_count (both kind a b) ≡ leaf_count a + leaf_count b)
@@ -42,56 +43,63 @@ series_leaves xs = option_leaves (join_of seq xs) ∙ join_of_leaves seq (λ a b
 pub parallel_leaves : (xs : List Tree) → sum_by leaves (join_list par xs) ≡ sum_by leaves xs
 parallel_leaves xs = option_leaves (join_of par xs) ∙ join_of_leaves par (λ a b. refl) xs
 
-each_leaves : (n : ℕ) (f : ℕ → List Tree) (g : ℕ → List Act) → ((k : ℕ) → sum_by leaves (f k) ≡ length (g k)) → sum_by leaves (each_copy n f) ≡ length (each_copy n g)
-each_leaves zero f g h = refl
-each_leaves (suc n) f g h = sum_by-append leaves (each_copy n f) (f n) ∙ simp length-append (omega (arith, each_leaves n f g h, h n))
+-- the leaves of a list of shapes, one by one
+pub total_is : (xs : List Tree) → total xs ≡ sum_by leaves xs
+total_is [] = refl
+total_is (x ∷ xs) = ap (λ n. leaves x + n) (total_is xs) ∙ sym (sum_by-cons leaves x xs)
 
--- the leaves of the shapes are as many as the acts
-shapes_leaves : (items : Items) (c : ℕ) → sum_by leaves (shapes_in c items) ≡ length (acts_in c items)
-shapes_leaves nothing c = refl
-shapes_leaves (leaf_then _ more) c = sum_by-cons leaves leaf (shapes_in c more) ∙ omega (arith, shapes_leaves more c)
-shapes_leaves (block_then seq_block body more) c =
-    sum_by-append leaves (join_list seq (shapes_in c body)) (shapes_in c more)
-    ∙ simp length-append (omega (arith, series_leaves (shapes_in c body), shapes_leaves body c, shapes_leaves more c))
-shapes_leaves (block_then par_block body more) c =
-    sum_by-append leaves (join_list par (shapes_in c body)) (shapes_in c more)
-    ∙ simp length-append (omega (arith, parallel_leaves (shapes_in c body), shapes_leaves body c, shapes_leaves more c))
-shapes_leaves (block_then (for_loop n) body more) c =
-    let f : ℕ → List Tree = λ k. join_list seq (shapes_in k body) in
-    let g : ℕ → List Act = λ k. acts_in k body in
-    let e = each_leaves (word_number n) f g (λ k. series_leaves (shapes_in k body) ∙ shapes_leaves body k) in
-    sum_by-append leaves (join_list seq (each_copy (word_number n) f)) (shapes_in c more)
-    ∙ simp length-append (omega (arith, series_leaves (each_copy (word_number n) f), e, shapes_leaves more c))
-shapes_leaves (block_then (pfor_loop n) body more) c =
-    let f : ℕ → List Tree = λ k. join_list seq (shapes_in k body) in
-    let g : ℕ → List Act = λ k. acts_in k body in
-    let e = each_leaves (word_number n) f g (λ k. series_leaves (shapes_in k body) ∙ shapes_leaves body k) in
-    sum_by-append leaves (join_list par (each_copy (word_number n) f)) (shapes_in c more)
-    ∙ simp length-append (omega (arith, parallel_leaves (each_copy (word_number n) f), e, shapes_leaves more c))
+pub total_append : (xs ys : List Tree) → total (xs ++ ys) ≡ total xs + total ys
+total_append [] ys = omega arith
+total_append (x ∷ xs) ys = omega (arith, total_append xs ys)
 
-pub job_leaves : (items : Items) → leaf_count (join_of seq (shapes_in 0 items)) ≡ length (acts_in 0 items)
-job_leaves items = join_of_leaves seq (λ a b. refl) (shapes_in 0 items) ∙ shapes_leaves items 0
+series_total : (xs : List Tree) → total (join_list seq xs) ≡ total xs
+series_total xs = total_is (join_list seq xs) ∙ series_leaves xs ∙ sym (total_is xs)
 
-pub each_length : {X : Type 0} (n m : ℕ) (g : ℕ → List X) → ((k : ℕ) → length (g k) ≡ m) → length (each_copy n g) ≡ n * m
-each_length zero m g h = omega arith
-each_length (suc n) m g h = simp length-append (omega (arith, each_length n m g h, h n))
+parallel_total : (xs : List Tree) → total (join_list par xs) ≡ total xs
+parallel_total xs = total_is (join_list par xs) ∙ parallel_leaves xs ∙ sym (total_is xs)
 
--- there are as many acts as `count` gives
+pub joined_total : (kind : BlockKind) (xs : List Tree) → total (join_list (join_in kind) xs) ≡ total xs
+joined_total seq_block xs = series_total xs
+joined_total par_block xs = parallel_total xs
+joined_total (for_loop n) xs = series_total xs
+joined_total (pfor_loop n) xs = parallel_total xs
+
+pub copy_total : (kind : BlockKind) (xs : List Tree) → total (copy_shapes kind xs) ≡ total xs
+copy_total seq_block xs = refl
+copy_total par_block xs = refl
+copy_total (for_loop n) xs = series_total xs
+copy_total (pfor_loop n) xs = series_total xs
+
+pub each_total : (n m : ℕ) (g : ℕ → List Tree) → ((k : ℕ) → total (g k) ≡ m) → total (each_copy n g) ≡ n * m
+each_total zero m g h = omega arith
+each_total (suc n) m g h = total_append (each_copy n g) (g n) ∙ omega (arith, each_total n m g h, h n)
+
+pub block_total : (kind : BlockKind) (c m : ℕ) (g : ℕ → List Tree) → ((k : ℕ) → total (g k) ≡ m) → total (in_block kind c g) ≡ copies_of kind * m
+block_total seq_block c m g h = h c ∙ omega arith
+block_total par_block c m g h = h c ∙ omega arith
+block_total (for_loop n) c m g h = each_total (word_number n) m g h
+block_total (pfor_loop n) c m g h = each_total (word_number n) m g h
+
+-- there are as many leaves in the shapes, acts, and results of a rule as `count` gives
+pub shapes_count : (items : Items) (c : ℕ) → total (shapes_in c items) ≡ count items
+shapes_count nothing c = refl
+shapes_count (leaf_then _ more) c = omega (arith, shapes_count more c)
+shapes_count (block_then kind body more) c =
+    let g : ℕ → List Tree = λ k. copy_shapes kind (shapes_in k body) in
+    let e = block_total kind c (count body) g (λ k. copy_total kind (shapes_in k body) ∙ shapes_count body k) in
+    total_append (join_list (join_in kind) (in_block kind c g)) (shapes_in c more) ∙ omega (arith, joined_total kind (in_block kind c g), e, shapes_count more c)
+
 pub acts_count : (items : Items) (c : ℕ) → length (acts_in c items) ≡ count items
 acts_count nothing c = refl
 acts_count (leaf_then _ more) c = omega (arith, acts_count more c)
-acts_count (block_then seq_block body more) c = simp length-append (omega (arith, acts_count body c, acts_count more c))
-acts_count (block_then par_block body more) c = simp length-append (omega (arith, acts_count body c, acts_count more c))
-acts_count (block_then (for_loop n) body more) c = simp length-append (omega (arith, each_length (word_number n) (count body) (λ k. acts_in k body) (λ k. acts_count body k), acts_count more c))
-acts_count (block_then (pfor_loop n) body more) c = simp length-append (omega (arith, each_length (word_number n) (count body) (λ k. acts_in k body) (λ k. acts_count body k), acts_count more c))
+acts_count (block_then kind body more) c = simp length-append (omega (arith, block_length kind c (count body) (λ k. acts_in k body) (λ k. acts_count body k), acts_count more c))
 
--- and as many of what a rule gives
 pub each_leaf_count : {X : Type 0} (rule : Leaf → X) (items : Items) → length (each_leaf rule items) ≡ count items
 each_leaf_count rule nothing = refl
 each_leaf_count rule (leaf_then _ more) = omega (arith, each_leaf_count rule more)
-each_leaf_count rule (block_then seq_block body more) = simp length-append (omega (arith, each_leaf_count rule body, each_leaf_count rule more))
-each_leaf_count rule (block_then par_block body more) = simp length-append (omega (arith, each_leaf_count rule body, each_leaf_count rule more))
-each_leaf_count rule (block_then (for_loop n) body more) =
-    simp length-append (omega (arith, each_length (word_number n) (count body) (λ k. each_leaf rule body) (λ k. each_leaf_count rule body), each_leaf_count rule more))
-each_leaf_count rule (block_then (pfor_loop n) body more) =
-    simp length-append (omega (arith, each_length (word_number n) (count body) (λ k. each_leaf rule body) (λ k. each_leaf_count rule body), each_leaf_count rule more))
+each_leaf_count rule (block_then kind body more) =
+    simp length-append (omega (arith, block_length kind 0 (count body) (λ k. each_leaf rule body) (λ k. each_leaf_count rule body), each_leaf_count rule more))
+
+pub job_leaves : (items : Items) → leaf_count (join_of seq (shapes_in 0 items)) ≡ length (acts_in 0 items)
+job_leaves items =
+    join_of_leaves seq (λ a b. refl) (shapes_in 0 items) ∙ sym (total_is (shapes_in 0 items)) ∙ shapes_count items 0 ∙ sym (acts_count items 0)

@@ -6,17 +6,17 @@ use Rattle.std.proofs.lemmas.List.{length-map}
 use Rattle.seq_objects.specs.declared.act.Act.{Act}
 use Rattle.seq_objects.specs.declared.act.Act.TheVariants.{Work, Call}
 use Rattle.seq_objects.specs.declared.op.Op.{Op}
-use Rattle.seq_objects.specs.declared.op.Op.TheVariants.{CounterAdd, Push, Pop, TreeInsert, TreeRemove, TreeFind, TreeNext, PqInsert, PqTake}
-use Rattle.seq_objects.specs.Batches.{ObjectKind, Counter, Stack, Tree, Queue, kind_of}
-use Rattle.seq_objects.specs.Objects.{number_of}
+use Rattle.seq_objects.specs.declared.kind.Kind.{Kind}
+use Rattle.seq_objects.specs.Verbs.{kind_of_verb}
+use Rattle.seq_objects.specs.Parts.{verb_of, kind_of, number_of, argument_of, op_of}
+use Rattle.seq_objects.proofs.Parts as parts
 use Rattle.sp_order.specs.Objects.{number_in, AreUnnamed, with_number, numbered, with_numbers, AreByFirstUse, name_of_number, AreOfOneKind, AreApart, AreNumbered}
 use Rattle.job_names.specs.declared.name.Name.{Name}
 use Rattle.job_names.specs.Names.{name_of, spelling}
 use Rattle.job_names.specs.Names as names
 use Rattle.job_syntax.specs.Blocks.{word_number}
-use Rattle.job_syntax.specs.Grammar.{Items, nothing, leaf_then, block_then, seq_block, par_block, for_loop, pfor_loop, Leaf, with_argument, stack_pop, queue_take, bound, work, counter_add, stack_push, tree_insert, tree_remove, tree_find, tree_next, queue_insert}
-use Rattle.job_lang.specs.Meaning as meaning
-use Rattle.job_lang.specs.Meaning.{act_of, acts_in, each_copy, object_named, object_of, objects_in}
+use Rattle.job_syntax.specs.Grammar.{Items, nothing, leaf_then, block_then, BlockKind, seq_block, par_block, for_loop, pfor_loop, Leaf, work, call, bound}
+use Rattle.job_lang.specs.Meaning.{argument_in, act_of, acts_in, each_copy, in_block, object_named, object_of, objects_in}
 use Rattle.job_lang.specs.Objects.{NamedObject, same_object, with_object, named_behind, named_by, number_among, numbers_of, names_of, object_numbered, object_called}
 use Rattle.job_lang.specs.Code.Numbered.{numbers_behind, IsSpelledName, IsSpelled, AreSpelled}
 use Rattle.sp_order.proofs.ObjectLemmas.{number_given}
@@ -25,15 +25,7 @@ use Rattle.job_lang.proofs.ExpandLemmas.Places.{Has, at_place, one_place, with_o
 -- the kind of an operation on the object with another number
 
 pub kind_with : (op : Op) (number : ℕ) → kind_of (with_number op number) ≡ kind_of op
-kind_with (CounterAdd _ addend) number = refl
-kind_with (Push _ item) number = refl
-kind_with (Pop _) number = refl
-kind_with (TreeInsert _ key) number = refl
-kind_with (TreeRemove _ key) number = refl
-kind_with (TreeFind _ key) number = refl
-kind_with (TreeNext _ key) number = refl
-kind_with (PqInsert _ item) number = refl
-kind_with (PqTake _) number = refl
+kind_with op number = parts.kind_given (verb_of op) number (argument_of op)
 
 -- An act of a leaf that names this object, if it names one: a call of its kind, on the object with the number 0.
 abbrev pub Names : Act → Option NamedObject → Type 0
@@ -57,34 +49,29 @@ naming_copies : (n : ℕ) (f : ℕ → List Act) (objects : List (Option NamedOb
 naming_copies zero f objects h = tt
 naming_copies (suc n) f objects h = naming_append (each_copy n f) (f n) (each_copy n (λ k. objects)) objects (naming_copies n f objects h) (h n)
 
-call_names : (op : Op) (kind : ObjectKind) (name : Option Name) → number_of op ≡ 0 → kind_of op ≡ kind → Names (Call op) (object_named kind name)
+naming_block : (kind : BlockKind) (c : ℕ) (f : ℕ → List Act) (objects : List (Option NamedObject)) → ((k : ℕ) → AreNaming (f k) objects) → AreNaming (in_block kind c f) (in_block kind 0 (λ k. objects))
+naming_block seq_block c f objects h = h c
+naming_block par_block c f objects h = h c
+naming_block (for_loop n) c f objects h = naming_copies (word_number n) f objects h
+naming_block (pfor_loop n) c f objects h = naming_copies (word_number n) f objects h
+
+call_names : (op : Op) (kind : Kind) (name : Option Name) → number_of op ≡ 0 → kind_of op ≡ kind → Names (Call op) (object_named kind name)
 call_names op kind None first is = first
 call_names op kind (Some name) first is = (first, is)
 
 leaf_names : (l : Leaf) (c : ℕ) → Names (act_of c l) (object_of l)
-leaf_names (with_argument work w) c = refl
-leaf_names (with_argument (counter_add name) w) c = call_names (CounterAdd 0 (meaning.number_in c w)) Counter name refl refl
-leaf_names (with_argument (stack_push name) w) c = call_names (Push 0 (meaning.number_in c w)) Stack name refl refl
-leaf_names (with_argument (tree_insert name) w) c = call_names (TreeInsert 0 (meaning.number_in c w)) Tree name refl refl
-leaf_names (with_argument (tree_remove name) w) c = call_names (TreeRemove 0 (meaning.number_in c w)) Tree name refl refl
-leaf_names (with_argument (tree_find name) w) c = call_names (TreeFind 0 (meaning.number_in c w)) Tree name refl refl
-leaf_names (with_argument (tree_next name) w) c = call_names (TreeNext 0 (meaning.number_in c w)) Tree name refl refl
-leaf_names (with_argument (queue_insert name) w) c = call_names (PqInsert 0 (meaning.number_in c w)) Queue name refl refl
-leaf_names (stack_pop name) c = call_names (Pop 0) Stack name refl refl
-leaf_names (queue_take name) c = call_names (PqTake 0) Queue name refl refl
-leaf_names (bound name call) c = leaf_names call c
+leaf_names (work argument) c = refl
+leaf_names (call verb object argument) c =
+    let carried = argument_in c argument in
+    call_names (op_of verb 0 carried) (kind_of_verb verb) object (parts.number_given verb 0 carried) (parts.kind_given verb 0 carried)
+leaf_names (bound name given) c = leaf_names given c
 
 pub items_name : (items : Items) (c : ℕ) → AreNaming (acts_in c items) (objects_in items)
 items_name nothing c = tt
 items_name (leaf_then l more) c = (leaf_names l c, items_name more c)
-items_name (block_then seq_block body more) c = naming_append (acts_in c body) (acts_in c more) (objects_in body) (objects_in more) (items_name body c) (items_name more c)
-items_name (block_then par_block body more) c = naming_append (acts_in c body) (acts_in c more) (objects_in body) (objects_in more) (items_name body c) (items_name more c)
-items_name (block_then (for_loop n) body more) c =
-    naming_append (each_copy (word_number n) (λ k. acts_in k body)) (acts_in c more) (each_copy (word_number n) (λ k. objects_in body)) (objects_in more)
-    (naming_copies (word_number n) (λ k. acts_in k body) (objects_in body) (λ k. items_name body k)) (items_name more c)
-items_name (block_then (pfor_loop n) body more) c =
-    naming_append (each_copy (word_number n) (λ k. acts_in k body)) (acts_in c more) (each_copy (word_number n) (λ k. objects_in body)) (objects_in more)
-    (naming_copies (word_number n) (λ k. acts_in k body) (objects_in body) (λ k. items_name body k)) (items_name more c)
+items_name (block_then kind body more) c =
+    naming_append (in_block kind c (λ k. acts_in k body)) (acts_in c more) (in_block kind 0 (λ k. objects_in body)) (objects_in more)
+    (naming_block kind c (λ k. acts_in k body) (objects_in body) (λ k. items_name body k)) (items_name more c)
 
 -- the acts call objects with the number 0
 

@@ -2,30 +2,12 @@
 use Rattle.std.proofs.Common.{◌≡◌, ℕ, zero, suc, ◌+◌, ◌<◌, List, [], ◌∷◌, ◌++◌, length, map, Bool, true, false, not, Option, Some, None, refl, sym, ap, ◌∙◌, subst, arith}
 use Rattle.std.specs.Prelude.{◌||◌, ◌&&◌, if◌then◌else◌, slice_get, slice_index_or}
 use Rattle.std.specs.List.{list_any, position_or_len, AllByRecursion}
-use Rattle.seq_objects.specs.Batches.{ObjectKind, Counter, Stack, Tree, Queue, same_kind}
+use Rattle.seq_objects.specs.Verbs.{same_kind}
 use Rattle.job_names.specs.Names.{same_name}
 use Rattle.job_names.proofs.SameNames.{and_left, and_right, same_from, same_to}
 use Rattle.job_lang.specs.Objects.{NamedObject, same_object, with_object, named_behind, number_among}
 use Rattle.job_lang.specs.Code.Numbered.{numbers_behind}
-use Rattle.seq_objects.proofs.Apart.{same_self}
-
-kind_from : (a b : ObjectKind) → same_kind a b ≡ true → a ≡ b
-kind_from Counter Counter h = refl
-kind_from Stack Stack h = refl
-kind_from Tree Tree h = refl
-kind_from Queue Queue h = refl
-kind_from Counter Stack h = cc
-kind_from Counter Tree h = cc
-kind_from Counter Queue h = cc
-kind_from Stack Counter h = cc
-kind_from Stack Tree h = cc
-kind_from Stack Queue h = cc
-kind_from Tree Counter h = cc
-kind_from Tree Stack h = cc
-kind_from Tree Queue h = cc
-kind_from Queue Counter h = cc
-kind_from Queue Stack h = cc
-kind_from Queue Tree h = cc
+use Rattle.seq_objects.proofs.Verbs.{same_is, same_self}
 
 both_true : (a b : Bool) → a ≡ true → b ≡ true → (a && b) ≡ true
 both_true true b h k = k
@@ -33,7 +15,7 @@ both_true false b h k = cc
 
 pub object_from : (x y : NamedObject) → same_object x y ≡ true → x ≡ y
 object_from x y h =
-    let kind = kind_from x.kind y.kind (and_left (same_kind x.kind y.kind) (same_name x.name y.name) h) in
+    let kind = sym (same_is x.kind y.kind (and_left (same_kind x.kind y.kind) (same_name x.name y.name) h)) in
     let name = same_from x.name y.name (and_right (same_kind x.kind y.kind) (same_name x.name y.name) h) in
     λ i. record { kind = kind i; name = name i }
 

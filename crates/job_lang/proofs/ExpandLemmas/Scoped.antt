@@ -1,6 +1,6 @@
 -- The leaves that are added, item by item and copy by copy, and their sources by the meaning.
-use Rattle.std.proofs.Common.{◌≡◌, ℕ, zero, suc, ◌+◌, ◌*◌, Bool, true, false, not, List, [], ◌∷◌, ◌++◌, Option, Some, refl, sym, ap, ◌∙◌, arith, append_assoc, append-nil, subst}
-use Rattle.std.specs.Prelude.{if◌then◌else◌}
+use Rattle.std.proofs.Common.{◌≡◌, ℕ, ◌+◌, ◌*◌, Bool, true, false, not, List, [], ◌∷◌, ◌++◌, Option, Some, None, refl, sym, ap, ◌∙◌, arith, append_assoc, append-nil, subst}
+use Rattle.std.specs.Prelude.{if◌then◌else◌, option_and_then}
 use Rattle.job_names.specs.declared.name.Name.{Name}
 use Rattle.job_names.specs.declared.kind.Kind.{Kind}
 use Rattle.job_names.specs.declared.kind.Kind.TheVariants as kind
@@ -8,11 +8,12 @@ use Rattle.job_names.specs.declared.scopes.Let.{Let}
 use Rattle.job_names.specs.Names.{same_name}
 use Rattle.job_names.specs.Scopes.{Scope, job, inside, is_par, or_else, last_of, lets_shown, with_lets}
 use Rattle.job_names.proofs.ScopeLemmas.{last_append, with_nothing}
-use Rattle.job_syntax.specs.declared.lexer.word.Word.TheVariants.{Named}
-use Rattle.job_syntax.specs.Blocks.{word_number, copies_of}
-use Rattle.job_syntax.specs.Grammar.{Items, nothing, leaf_then, block_then, seq_block, par_block, for_loop, pfor_loop, ◌then◌, Leaf, with_argument, stack_pop, queue_take, bound, is_loop}
+use Rattle.job_syntax.specs.Blocks.{copies_of, name_kind}
+use Rattle.job_syntax.specs.Grammar.{Items, nothing, leaf_then, block_then, BlockKind, seq_block, par_block, for_loop, pfor_loop, ◌then◌, Leaf, work, call, bound, is_loop}
+use Rattle.job_syntax.specs.Grammar as grammar
+use Rattle.job_syntax.specs.Arguments.{name_used}
 use Rattle.job_lang.specs.Counts.{count}
-use Rattle.job_lang.specs.Meaning.{each_copy, Known, leaf_known, source_of, known_by, known_behind, known_next, sources_in}
+use Rattle.job_lang.specs.Meaning.{in_block_from, Known, leaf_known, source_of, known_by, known_behind, known_next, sources_in}
 use Rattle.job_lang.specs.Code.Scoped.{lets_at, lets_behind, scoped_source, scoped_sources}
 
 -- items one after another
@@ -39,28 +40,14 @@ sources_then scope first at (leaf_then l a) b e =
     ap (λ rest. scoped_source scope l ∷ rest)
     (sources_then (with_lets scope (lets_at first l)) (first + 1) at a b (omega (arith, e))
     ∙ ap (λ s. scoped_sources (with_lets scope (lets_at first l)) (first + 1) a ++ scoped_sources s at b) (with_two scope (lets_at first l) (lets_behind (first + 1) a)))
-sources_then scope first at (block_then seq_block body a) b e =
-    let next = first + 1 * count body in
-    let now = with_lets scope (lets_behind first body) in
-    ap (λ rest. scoped_sources (inside scope kind.Series []) first body ++ rest)
-    (sources_then now next at a b (omega (arith, e)) ∙ ap (λ s. scoped_sources now next a ++ scoped_sources s at b) (with_two scope (lets_behind first body) (lets_behind next a)))
-    ∙ sym (append_assoc (scoped_sources (inside scope kind.Series []) first body) (scoped_sources now next a) (scoped_sources (with_lets scope (lets_behind first body ++ lets_behind next a)) at b))
-sources_then scope first at (block_then par_block body a) b e =
-    let next = first + 1 * count body in
-    let now = with_lets scope (lets_behind first body) in
-    ap (λ rest. scoped_sources (inside scope kind.Par []) first body ++ rest)
-    (sources_then now next at a b (omega (arith, e)) ∙ ap (λ s. scoped_sources now next a ++ scoped_sources s at b) (with_two scope (lets_behind first body) (lets_behind next a)))
-    ∙ sym (append_assoc (scoped_sources (inside scope kind.Par []) first body) (scoped_sources now next a) (scoped_sources (with_lets scope (lets_behind first body ++ lets_behind next a)) at b))
-sources_then scope first at (block_then (for_loop n) body a) b e =
-    let next = first + word_number n * count body in
-    let front = each_copy (word_number n) (λ k. scoped_sources (inside scope kind.Loop []) (first + k * count body) body) in
-    ap (λ rest. front ++ rest) (sources_then scope next at a b (omega (arith, e)))
-    ∙ sym (append_assoc front (scoped_sources scope next a) (scoped_sources (with_lets scope (lets_behind next a)) at b))
-sources_then scope first at (block_then (pfor_loop n) body a) b e =
-    let next = first + word_number n * count body in
-    let front = each_copy (word_number n) (λ k. scoped_sources (inside scope kind.Loop []) (first + k * count body) body) in
-    ap (λ rest. front ++ rest) (sources_then scope next at a b (omega (arith, e)))
-    ∙ sym (append_assoc front (scoped_sources scope next a) (scoped_sources (with_lets scope (lets_behind next a)) at b))
+sources_then scope first at (block_then kind body a) b e =
+    let next = first + copies_of kind * count body in
+    let new = if is_loop kind then [] else lets_behind first body in
+    let now = with_lets scope new in
+    let front = in_block_from kind first (count body) (λ from. scoped_sources (inside scope (name_kind kind) []) from body) in
+    ap (λ rest. front ++ rest)
+    (sources_then now next at a b (omega (arith, e)) ∙ ap (λ s. scoped_sources now next a ++ scoped_sources s at b) (with_two scope new (lets_behind next a)))
+    ∙ sym (append_assoc front (scoped_sources now next a) (scoped_sources (with_lets scope (new ++ lets_behind next a)) at b))
 
 pub scope_behind_then : (scope : Scope) (first at : ℕ) (a b : Items) → at ≡ first + count a
     → with_lets (with_lets scope (lets_behind first a)) (lets_behind at b) ≡ with_lets scope (lets_behind first (a then b))
@@ -85,10 +72,9 @@ agrees_both new known old lets e f name =
     known_append new known name ∙ ap (λ r. or_else r (leaf_known known name)) (e name) ∙ ap (or_else (last_of name lets)) (f name) ∙ sym (last_append name old lets)
 
 leaf_agrees : (l : Leaf) (first : ℕ) → Agrees (known_by first l) (lets_at first l)
-leaf_agrees (with_argument op w) first name = refl
-leaf_agrees (stack_pop object) first name = refl
-leaf_agrees (queue_take object) first name = refl
-leaf_agrees (bound given call) first name = refl
+leaf_agrees (work argument) first name = refl
+leaf_agrees (call verb object argument) first name = refl
+leaf_agrees (bound given l) first name = refl
 
 kept_agrees : (loop : Bool) (known : List Known) (lets : List Let) → Agrees known lets → Agrees (if loop then [] else known) (if loop then [] else lets)
 kept_agrees true known lets e name = refl
@@ -128,51 +114,36 @@ with_series : (scope : Scope) (more : List Let) → in_series (with_lets scope m
 with_series (job lets) more = refl
 with_series (inside outer kind lets) more = refl
 
-source_agrees : (scope : Scope) (known : List Known) (l : Leaf) → Agrees known (lets_shown scope) → scoped_source scope l ≡ source_of known l
-source_agrees scope known (with_argument op (Named name)) e = sym (e name)
-source_agrees scope known (with_argument op _) e = refl
-source_agrees scope known (stack_pop object) e = refl
-source_agrees scope known (queue_take object) e = refl
-source_agrees scope known (bound name call) e = source_agrees scope known call e
+source_agrees : (scope : Scope) (known : List Known) (used : Option Name) → Agrees known (lets_shown scope)
+    → option_and_then (λ name. last_of name (lets_shown scope)) used ≡ option_and_then (leaf_known known) used
+source_agrees scope known None e = refl
+source_agrees scope known (Some name) e = sym (e name)
 
-each_same : (n : ℕ) (f g : ℕ → List (Option ℕ)) → ((k : ℕ) → f k ≡ g k) → each_copy n f ≡ each_copy n g
-each_same zero f g h = refl
-each_same (suc n) f g h = ap (λ x. x ++ f n) (each_same n f g h) ∙ ap (λ x. each_copy n g ++ x) (h n)
+-- the items of a block run in series, or in parallel, as its scope says
+inner_series : (scope : Scope) (kind : BlockKind) → in_series (inside scope (name_kind kind) []) ≡ not (grammar.is_par kind)
+inner_series scope seq_block = refl
+inner_series scope par_block = refl
+inner_series scope (for_loop n) = refl
+inner_series scope (pfor_loop n) = refl
 
 -- the sources in a scope are those of the meaning
 pub scoped_is : (items : Items) (series : Bool) (known : List Known) (scope : Scope) (first : ℕ) → in_series scope ≡ series → Agrees known (lets_shown scope) → scoped_sources scope first items ≡ sources_in series known first items
 scoped_is nothing series known scope first is e = refl
 scoped_is (leaf_then l more) series known scope first is e =
-    ap (λ s. s ∷ scoped_sources (with_lets scope (lets_at first l)) (first + 1) more) (source_agrees scope known l e)
+    ap (λ s. s ∷ scoped_sources (with_lets scope (lets_at first l)) (first + 1) more) (source_agrees scope known (name_used l) e)
     ∙ ap (λ rest. source_of known l ∷ rest)
     (scoped_is more series (known_next series (known_by first l) known) (with_lets scope (lets_at first l)) (first + 1) (with_series scope (lets_at first l) ∙ is)
     (subst (λ b. Agrees (known_next b (known_by first l) known) (lets_shown (with_lets scope (lets_at first l)))) is (next_agrees scope (lets_at first l) (known_by first l) known (leaf_agrees l first) e)))
-scoped_is (block_then seq_block body more) series known scope first is e =
-    let next = first + 1 * count body in
-    let now = with_lets scope (lets_behind first body) in
-    ap (λ s. s ++ scoped_sources now next more) (scoped_is body true known (inside scope kind.Series []) first refl (inner_agrees scope kind.Series known e))
-    ∙ ap (λ rest. sources_in true known first body ++ rest)
-    (scoped_is more series (known_next series (known_behind first body) known) now next (with_series scope (lets_behind first body) ∙ is)
-    (subst (λ b. Agrees (known_next b (known_behind first body) known) (lets_shown now)) is (next_agrees scope (lets_behind first body) (known_behind first body) known (behind_agrees body first) e)))
-scoped_is (block_then par_block body more) series known scope first is e =
-    let next = first + 1 * count body in
-    let now = with_lets scope (lets_behind first body) in
-    ap (λ s. s ++ scoped_sources now next more) (scoped_is body false known (inside scope kind.Par []) first refl (inner_agrees scope kind.Par known e))
-    ∙ ap (λ rest. sources_in false known first body ++ rest)
-    (scoped_is more series (known_next series (known_behind first body) known) now next (with_series scope (lets_behind first body) ∙ is)
-    (subst (λ b. Agrees (known_next b (known_behind first body) known) (lets_shown now)) is (next_agrees scope (lets_behind first body) (known_behind first body) known (behind_agrees body first) e)))
-scoped_is (block_then (for_loop n) body more) series known scope first is e =
-    let next = first + word_number n * count body in
-    ap (λ s. s ++ scoped_sources scope next more)
-    (each_same (word_number n) (λ k. scoped_sources (inside scope kind.Loop []) (first + k * count body) body) (λ k. sources_in true known (first + k * count body) body)
-    (λ k. scoped_is body true known (inside scope kind.Loop []) (first + k * count body) refl (inner_agrees scope kind.Loop known e)))
-    ∙ ap (λ rest. each_copy (word_number n) (λ k. sources_in true known (first + k * count body) body) ++ rest) (scoped_is more series known scope next is e)
-scoped_is (block_then (pfor_loop n) body more) series known scope first is e =
-    let next = first + word_number n * count body in
-    ap (λ s. s ++ scoped_sources scope next more)
-    (each_same (word_number n) (λ k. scoped_sources (inside scope kind.Loop []) (first + k * count body) body) (λ k. sources_in true known (first + k * count body) body)
-    (λ k. scoped_is body true known (inside scope kind.Loop []) (first + k * count body) refl (inner_agrees scope kind.Loop known e)))
-    ∙ ap (λ rest. each_copy (word_number n) (λ k. sources_in true known (first + k * count body) body) ++ rest) (scoped_is more series known scope next is e)
+scoped_is (block_then kind body more) series known scope first is e =
+    let next = first + copies_of kind * count body in
+    let new = if is_loop kind then [] else known_behind first body in
+    let lets = if is_loop kind then [] else lets_behind first body in
+    let now = with_lets scope lets in
+    let inner = inside scope (name_kind kind) [] in
+    let given = kept_agrees (is_loop kind) (known_behind first body) (lets_behind first body) (behind_agrees body first) in
+    let rest = scoped_is more series (known_next series new known) now next (with_series scope lets ∙ is)
+    (subst (λ b. Agrees (known_next b new known) (lets_shown now)) is (next_agrees scope lets new known given e)) in
+    λ i. in_block_from kind first (count body) (λ from. scoped_is body (not (grammar.is_par kind)) known inner from (inner_series scope kind) (inner_agrees scope (name_kind kind) known e) i) ++ rest i
 
 pub job_sources : (items : Items) → scoped_sources (job []) 0 items ≡ sources_in true [] 0 items
 job_sources items = scoped_is items true [] (job []) 0 refl (λ name. refl)

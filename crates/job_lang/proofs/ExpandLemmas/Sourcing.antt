@@ -1,26 +1,31 @@
 -- Sources are call leaves that stand before the leaves that use them.
-use Rattle.std.proofs.Common.{ℕ, zero, suc, ◌≡◌, ◌+◌, ◌*◌, ◌<◌, ◌≤◌, ◌⊎◌, inl, inr, Bool, true, false, List, [], ◌∷◌, ◌++◌, length, Option, Some, None, arith, refl, sym, ap, ◌∙◌, subst, length-append}
-use Rattle.std.specs.Prelude.{if◌then◌else◌, slice_get}
+use Rattle.std.proofs.Common.{ℕ, zero, suc, ◌≡◌, ◌+◌, ◌*◌, ◌<◌, ◌≤◌, ◌⊎◌, inl, inr, Bool, true, false, not, List, [], ◌∷◌, ◌++◌, length, Option, Some, None, arith, refl, sym, ap, ◌∙◌, subst, length-append}
+use Rattle.std.specs.Prelude.{if◌then◌else◌, option_and_then, slice_get}
 use Rattle.seq_objects.specs.declared.act.Act.{Act}
 use Rattle.seq_objects.specs.declared.act.Act.TheVariants.{Call}
 use Rattle.seq_objects.specs.declared.op.Op.{Op}
-use Rattle.seq_objects.specs.declared.op.Op.TheVariants.{CounterAdd, Push, Pop, TreeInsert, TreeRemove, TreeFind, TreeNext, PqInsert, PqTake}
-use Rattle.seq_objects.specs.Objects.{argument_of}
-use Rattle.sp_order.specs.Precedence.{Tree, leaf, seq, par, IsBefore}
-use Rattle.sp_order.specs.Sources.{has_argument, IsSource, AreSources}
+use Rattle.seq_objects.specs.declared.verb.Verb.{Verb}
+use Rattle.seq_objects.specs.Verbs.{takes_argument}
+use Rattle.seq_objects.specs.Parts.{op_of, argument_of, has_argument}
+use Rattle.seq_objects.proofs.Parts.{argument_given, takes_given}
+use Rattle.sp_order.specs.Precedence.{Tree, leaf, seq, IsBefore}
+use Rattle.sp_order.specs.Sources.{IsSource, AreSources}
 use Rattle.job_names.specs.declared.name.Name.{Name}
 use Rattle.job_names.specs.Names.{same_name}
 use Rattle.job_syntax.specs.declared.lexer.word.Word.TheVariants.{Named}
-use Rattle.job_syntax.specs.Blocks.{word_number}
-use Rattle.job_syntax.specs.Grammar.{UnaryOp, work, counter_add, stack_push, tree_insert, tree_remove, tree_find, tree_next, queue_insert, Leaf, with_argument, stack_pop, queue_take, bound, BlockKind, seq_block, par_block, for_loop, pfor_loop, Items, nothing, leaf_then, block_then, is_argument, is_call_argument}
+use Rattle.job_syntax.specs.Blocks.{word_number, copies_of}
+use Rattle.job_syntax.specs.Grammar.{Leaf, work, call, bound, BlockKind, seq_block, par_block, for_loop, pfor_loop, Items, nothing, leaf_then, block_then, is_loop, is_par}
 use Rattle.job_syntax.specs.Grammar as grammar
 use Rattle.job_syntax.proofs.ParserLemmas.NamesSeen.{AreFlat, flat_items}
+use Rattle.job_syntax.specs.Arguments.{name_used}
 use Rattle.job_lang.specs.Counts.{count}
 use Rattle.job_lang.specs.Joins.{join_of}
-use Rattle.job_lang.specs.Meaning.{each_copy, Known, leaf_known, source_of, known_by, known_behind, known_next, sources_in, number_in, act_of, acts_in, join_list, shapes_in}
-use Rattle.job_lang.proofs.ExpandLemmas.Before.{total, kind_by, IsBeforeIn, IsBeforeOpt}
-use Rattle.job_lang.proofs.ExpandLemmas.Joined.{total_append, before_left, before_right, before_cross, joined_of, joined_list, total_joined, before_is_smaller}
-use Rattle.job_lang.proofs.ExpandLemmas.Leaves.{acts_count, each_length}
+use Rattle.job_lang.specs.Meaning.{each_copy, Known, leaf_known, source_of, known_by, known_behind, known_next, sources_in, argument_in, act_of, acts_in, in_block, in_block_from, join_list, join_in, copy_shapes, shapes_in}
+use Rattle.job_syntax.proofs.ParserLemmas.Calls.{call_is_leaf, verb_takes}
+use Rattle.job_lang.proofs.ExpandLemmas.Before.{total, kind_by, joins_series, join_is, IsBeforeIn, IsBeforeOpt}
+use Rattle.job_lang.proofs.ExpandLemmas.Blocks.{each_length, block_length, block_length_from}
+use Rattle.job_lang.proofs.ExpandLemmas.Joined.{before_left, before_right, before_cross, joined_of, joined_list, before_is_smaller}
+use Rattle.job_lang.proofs.ExpandLemmas.Leaves.{acts_count, shapes_count, joined_total, copy_total, each_total, block_total}
 
 -- the act calls; and calls with an argument that stands as 0
 abbrev pub Calls : Act → Type 0
@@ -65,12 +70,9 @@ name_known : (known : List Known) (name : Name) (u : ℕ) → leaf_known known n
 name_known [] name u e = cc
 name_known (k ∷ known) name u e = elim (one_of (same_name k.name name) k.leaf (leaf_known known name) u e) [ inl h ↦ inl h | inr h ↦ inr (name_known known name u h) ]
 
-source_known : (known : List Known) (l : Leaf) (u : ℕ) → source_of known l ≡ Some u → HasLeaf known u
-source_known known (with_argument op (Named name)) u e = name_known known name u e
-source_known known (with_argument op _) u e = cc
-source_known known (stack_pop object) u e = cc
-source_known known (queue_take object) u e = cc
-source_known known (bound name call) u e = source_known known call u e
+used_known : (known : List Known) (used : Option Name) (u : ℕ) → option_and_then (leaf_known known) used ≡ Some u → HasLeaf known u
+used_known known None u e = cc
+used_known known (Some name) u e = name_known known name u e
 
 -- lists one behind the other
 source_split : (first at : ℕ) (xs ys : List (Option ℕ)) (v u : ℕ) → at ≡ first + length xs → IsSourceIn first (xs ++ ys) v u → IsSourceIn first xs v u ⊎ IsSourceIn at ys v u
@@ -98,61 +100,33 @@ act_range P first [] u h = elim h [ ]
 act_range P first (x ∷ xs) u (inl h) = let e = h.0 in (omega (arith, e), omega (arith, e))
 act_range P first (x ∷ xs) u (inr h) = let r = act_range P (first + 1) xs u h in let a = r.0 in let b = r.1 in (omega (arith, a), omega (arith, b))
 
--- how long they are
-each_total : (n m : ℕ) (g : ℕ → List Tree) → ((k : ℕ) → total (g k) ≡ m) → total (each_copy n g) ≡ n * m
-each_total zero m g h = omega arith
-each_total (suc n) m g h = total_append (each_copy n g) (g n) ∙ omega (arith, each_total n m g h, h n)
-
+-- how many sources there are
 sources_count : (items : Items) (series : Bool) (known : List Known) (first : ℕ) → length (sources_in series known first items) ≡ count items
 sources_count nothing series known first = refl
 sources_count (leaf_then l more) series known first = omega (arith, sources_count more series (known_next series (known_by first l) known) (first + 1))
-sources_count (block_then seq_block body more) series known first =
-    simp length-append (omega (arith, sources_count body true known first, sources_count more series (known_next series (known_behind first body) known) (first + 1 * count body)))
-sources_count (block_then par_block body more) series known first =
-    simp length-append (omega (arith, sources_count body false known first, sources_count more series (known_next series (known_behind first body) known) (first + 1 * count body)))
-sources_count (block_then (for_loop n) body more) series known first =
-    let e = each_length (word_number n) (count body) (λ k. sources_in true known (first + k * count body) body) (λ k. sources_count body true known (first + k * count body)) in
-    simp length-append (omega (arith, e, sources_count more series known (first + word_number n * count body)))
-sources_count (block_then (pfor_loop n) body more) series known first =
-    let e = each_length (word_number n) (count body) (λ k. sources_in true known (first + k * count body) body) (λ k. sources_count body true known (first + k * count body)) in
-    simp length-append (omega (arith, e, sources_count more series known (first + word_number n * count body)))
-
-shapes_count : (items : Items) (c : ℕ) → total (shapes_in c items) ≡ count items
-shapes_count nothing c = refl
-shapes_count (leaf_then _ more) c = omega (arith, shapes_count more c)
-shapes_count (block_then seq_block body more) c =
-    total_append (join_list seq (shapes_in c body)) (shapes_in c more) ∙ omega (arith, total_joined true (shapes_in c body), shapes_count body c, shapes_count more c)
-shapes_count (block_then par_block body more) c =
-    total_append (join_list par (shapes_in c body)) (shapes_in c more) ∙ omega (arith, total_joined false (shapes_in c body), shapes_count body c, shapes_count more c)
-shapes_count (block_then (for_loop n) body more) c =
-    let g : ℕ → List Tree = λ k. join_list seq (shapes_in k body) in
-    let e = each_total (word_number n) (count body) g (λ k. total_joined true (shapes_in k body) ∙ shapes_count body k) in
-    total_append (join_list seq (each_copy (word_number n) g)) (shapes_in c more) ∙ omega (arith, total_joined true (each_copy (word_number n) g), e, shapes_count more c)
-shapes_count (block_then (pfor_loop n) body more) c =
-    let g : ℕ → List Tree = λ k. join_list seq (shapes_in k body) in
-    let e = each_total (word_number n) (count body) g (λ k. total_joined true (shapes_in k body) ∙ shapes_count body k) in
-    total_append (join_list par (each_copy (word_number n) g)) (shapes_in c more) ∙ omega (arith, total_joined false (each_copy (word_number n) g), e, shapes_count more c)
+sources_count (block_then kind body more) series known first =
+    let inner = not (is_par kind) in
+    let next = known_next series (if is_loop kind then [] else known_behind first body) known in
+    let e = block_length_from kind first (count body) (λ at. sources_in inner known at body) (λ at. sources_count body inner known at) in
+    simp length-append (omega (arith, e, sources_count more series next (first + copies_of kind * count body)))
 
 -- what is known behind items are calls among them
-call_act : (call : Leaf) (c : ℕ) → grammar.IsCall true call → (op : Op) × (act_of c call ≡ Call op)
-call_act (with_argument work w) c is = elim is [ ]
-call_act (with_argument (counter_add object) w) c is = (CounterAdd 0 (number_in c w), refl)
-call_act (with_argument (stack_push object) w) c is = (Push 0 (number_in c w), refl)
-call_act (with_argument (tree_insert object) w) c is = (TreeInsert 0 (number_in c w), refl)
-call_act (with_argument (tree_remove object) w) c is = (TreeRemove 0 (number_in c w), refl)
-call_act (with_argument (tree_find object) w) c is = (TreeFind 0 (number_in c w), refl)
-call_act (with_argument (tree_next object) w) c is = (TreeNext 0 (number_in c w), refl)
-call_act (with_argument (queue_insert object) w) c is = (PqInsert 0 (number_in c w), refl)
-call_act (stack_pop object) c is = (Pop 0, refl)
-call_act (queue_take object) c is = (PqTake 0, refl)
-call_act (bound name call) c is = elim is [ ]
+call_act : (l : Leaf) (c : ℕ) → grammar.IsCall true l → (op : Op) × (act_of c l ≡ Call op)
+call_act (call verb object argument) c is = (op_of verb 0 (argument_in c argument), refl)
+call_act (work argument) c is = elim is [ ]
+call_act (bound name given) c is = elim is [ ]
 
 given : (l : Leaf) (first c u : ℕ) → grammar.IsLeaf true l → HasLeaf (known_by first l) u → IsCallIn first (act_of c l ∷ []) u
-given (bound name call) first c u is (inl e) = inl (sym e, call_act call c is)
-given (bound name call) first c u is (inr h) = elim h [ ]
-given (with_argument op w) first c u is h = elim h [ ]
-given (stack_pop object) first c u is h = elim h [ ]
-given (queue_take object) first c u is h = elim h [ ]
+given (bound name l) first c u is (inl e) = inl (sym e, call_act l c is)
+given (bound name l) first c u is (inr h) = elim h [ ]
+given (work argument) first c u is h = elim h [ ]
+given (call verb object argument) first c u is h = elim h [ ]
+
+block_calls : (kind : BlockKind) (c first u : ℕ) (known : List Known) (a : ℕ → List Act) → (HasLeaf known u → IsCallIn first (a c) u) → HasLeaf (if is_loop kind then [] else known) u → IsCallIn first (in_block kind c a) u
+block_calls seq_block c first u known a one h = one h
+block_calls par_block c first u known a one h = one h
+block_calls (for_loop n) c first u known a one h = elim h [ ]
+block_calls (pfor_loop n) c first u known a one h = elim h [ ]
 
 known_calls : (items : Items) (first c u : ℕ) → AreFlat items → HasLeaf (known_behind first items) u → IsCallIn first (acts_in c items) u
 known_calls nothing first c u are h = elim h [ ]
@@ -161,113 +135,65 @@ known_calls (leaf_then l more) first c u are h =
       | inl later ↦ inr (known_calls more (first + 1) c u are.1 later)
       | inr here ↦ act_left Calls first (act_of c l ∷ []) (acts_in c more) u (given l first c u are.0 here)
     ]
-known_calls (block_then seq_block body more) first c u are h =
-    elim (has_append (known_behind (first + 1 * count body) more) (known_behind first body) u h) [
-      | inl later ↦ act_right Calls first (first + 1 * count body) (acts_in c body) (acts_in c more) u (omega (arith, acts_count body c)) (known_calls more (first + 1 * count body) c u are.1 later)
-      | inr here ↦ act_left Calls first (acts_in c body) (acts_in c more) u (known_calls body first c u are.0 here)
-    ]
-known_calls (block_then par_block body more) first c u are h =
-    elim (has_append (known_behind (first + 1 * count body) more) (known_behind first body) u h) [
-      | inl later ↦ act_right Calls first (first + 1 * count body) (acts_in c body) (acts_in c more) u (omega (arith, acts_count body c)) (known_calls more (first + 1 * count body) c u are.1 later)
-      | inr here ↦ act_left Calls first (acts_in c body) (acts_in c more) u (known_calls body first c u are.0 here)
-    ]
-known_calls (block_then (for_loop n) body more) first c u are h =
-    elim (has_append (known_behind (first + word_number n * count body) more) [] u h) [
-      | inl later ↦ act_right Calls first (first + word_number n * count body) (each_copy (word_number n) (λ k. acts_in k body)) (acts_in c more) u (omega (arith, each_length (word_number n) (count body) (λ k. acts_in k body) (λ k. acts_count body k)))
-          (known_calls more (first + word_number n * count body) c u are.1 later)
-      | inr here ↦ elim here [ ]
-    ]
-known_calls (block_then (pfor_loop n) body more) first c u are h =
-    elim (has_append (known_behind (first + word_number n * count body) more) [] u h) [
-      | inl later ↦ act_right Calls first (first + word_number n * count body) (each_copy (word_number n) (λ k. acts_in k body)) (acts_in c more) u (omega (arith, each_length (word_number n) (count body) (λ k. acts_in k body) (λ k. acts_count body k)))
-          (known_calls more (first + word_number n * count body) c u are.1 later)
-      | inr here ↦ elim here [ ]
+known_calls (block_then kind body more) first c u are h =
+    let at = first + copies_of kind * count body in
+    let a : ℕ → List Act = λ k. acts_in k body in
+    elim (has_append (known_behind at more) (if is_loop kind then [] else known_behind first body) u h) [
+      | inl later ↦ act_right Calls first at (in_block kind c a) (acts_in c more) u (omega (arith, block_length kind c (count body) a (λ k. acts_count body k))) (known_calls more at c u are.1 later)
+      | inr here ↦ act_left Calls first (in_block kind c a) (acts_in c more) u (block_calls kind c first u (known_behind first body) a (λ k. known_calls body first c u are.0 k) here)
     ]
 
 -- a leaf that has a source calls, with an argument that stands as 0
-takes_named : (op : UnaryOp) (name : Name) (c : ℕ) → grammar.IsCall true (with_argument op (Named name)) → Takes (act_of c (with_argument op (Named name)))
-takes_named work name c is = elim is [ ]
-takes_named (counter_add object) name c is = (CounterAdd 0 0, (refl, (refl, refl)))
-takes_named (stack_push object) name c is = (Push 0 0, (refl, (refl, refl)))
-takes_named (tree_insert object) name c is = (TreeInsert 0 0, (refl, (refl, refl)))
-takes_named (tree_remove object) name c is = (TreeRemove 0 0, (refl, (refl, refl)))
-takes_named (tree_find object) name c is = (TreeFind 0 0, (refl, (refl, refl)))
-takes_named (tree_next object) name c is = (TreeNext 0 0, (refl, (refl, refl)))
-takes_named (queue_insert object) name c is = (PqInsert 0 0, (refl, (refl, refl)))
+none_or_none : (b : Bool) (none : ℕ) → (if b then none else none) ≡ none
+none_or_none true none = refl
+none_or_none false none = refl
 
-takes_call : (call : Leaf) (c : ℕ) (known : List Known) (u : ℕ) → grammar.IsCall true call → source_of known call ≡ Some u → Takes (act_of c call)
-takes_call (with_argument op (Named name)) c known u is e = takes_named op name c is
-takes_call (with_argument op _) c known u is e = cc
-takes_call (stack_pop object) c known u is e = cc
-takes_call (queue_take object) c known u is e = cc
-takes_call (bound name call) c known u is e = elim is [ ]
-
-takes_leaf : (op : UnaryOp) (name : Name) (c : ℕ) → grammar.IsLeaf true (with_argument op (Named name)) → Takes (act_of c (with_argument op (Named name)))
-takes_leaf work name c is = let never : false ≡ true = is in cc
-takes_leaf (counter_add object) name c is = (CounterAdd 0 0, (refl, (refl, refl)))
-takes_leaf (stack_push object) name c is = (Push 0 0, (refl, (refl, refl)))
-takes_leaf (tree_insert object) name c is = (TreeInsert 0 0, (refl, (refl, refl)))
-takes_leaf (tree_remove object) name c is = (TreeRemove 0 0, (refl, (refl, refl)))
-takes_leaf (tree_find object) name c is = (TreeFind 0 0, (refl, (refl, refl)))
-takes_leaf (tree_next object) name c is = (TreeNext 0 0, (refl, (refl, refl)))
-takes_leaf (queue_insert object) name c is = (PqInsert 0 0, (refl, (refl, refl)))
+takes_named : (verb : Verb) (name : Name) → grammar.FitsVerb true (takes_argument verb) (Some (Named name)) → Takes (Call (op_of verb 0 0))
+takes_named verb name fits =
+    (op_of verb 0 0, (refl, (takes_given verb 0 0 ∙ verb_takes true (takes_argument verb) (Named name) fits, argument_given verb 0 0 ∙ none_or_none (takes_argument verb) 0)))
 
 takes : (l : Leaf) (c : ℕ) (known : List Known) (u : ℕ) → grammar.IsLeaf true l → source_of known l ≡ Some u → Takes (act_of c l)
-takes (with_argument op (Named name)) c known u is e = takes_leaf op name c is
-takes (with_argument op _) c known u is e = cc
-takes (stack_pop object) c known u is e = cc
-takes (queue_take object) c known u is e = cc
-takes (bound name call) c known u is e = takes_call call c known u is e
+takes (work (Named name)) c known u is e = let never : false ≡ true = is in cc
+takes (work _) c known u is e = cc
+takes (call verb object (Some (Named name))) c known u is e = takes_named verb name is
+takes (call verb object (Some _)) c known u is e = cc
+takes (call verb object None) c known u is e = cc
+takes (bound name l) c known u is e = takes l c known u (call_is_leaf true l is) e
 
 copies_taken : (n m first u v : ℕ) (f : ℕ → List (Option ℕ)) (a : ℕ → List Act) → ((k : ℕ) → length (f k) ≡ m) → ((k : ℕ) → length (a k) ≡ m)
-    → ((k : ℕ) → IsSourceIn (first + k * m) (f k) v u → ActIn Takes (first + k * m) (a k) v)
+    → ((k c : ℕ) → IsSourceIn (first + k * m) (f k) v u → ActIn Takes (first + k * m) (a c) v)
     → IsSourceIn first (each_copy n f) v u → ActIn Takes first (each_copy n a) v
 copies_taken zero m first u v f a fl al one h = elim h [ ]
 copies_taken (suc n) m first u v f a fl al one h =
     elim (source_split first (first + n * m) (each_copy n f) (f n) v u (omega (arith, each_length n m f fl)) h) [
       | inl l ↦ act_left Takes first (each_copy n a) (a n) v (copies_taken n m first u v f a fl al one l)
-      | inr r ↦ act_right Takes first (first + n * m) (each_copy n a) (a n) v (omega (arith, each_length n m a al)) (one n r)
+      | inr r ↦ act_right Takes first (first + n * m) (each_copy n a) (a n) v (omega (arith, each_length n m a al)) (one n n r)
     ]
+
+block_taken : (kind : BlockKind) (m first c u v : ℕ) (f : ℕ → List (Option ℕ)) (a : ℕ → List Act) → ((at : ℕ) → length (f at) ≡ m) → ((k : ℕ) → length (a k) ≡ m)
+    → ((at c : ℕ) → IsSourceIn at (f at) v u → ActIn Takes at (a c) v)
+    → IsSourceIn first (in_block_from kind first m f) v u → ActIn Takes first (in_block kind c a) v
+block_taken seq_block m first c u v f a fl al one h = one first c h
+block_taken par_block m first c u v f a fl al one h = one first c h
+block_taken (for_loop n) m first c u v f a fl al one h = copies_taken (word_number n) m first u v (λ k. f (first + k * m)) a (λ k. fl (first + k * m)) al (λ k. one (first + k * m)) h
+block_taken (pfor_loop n) m first c u v f a fl al one h = copies_taken (word_number n) m first u v (λ k. f (first + k * m)) a (λ k. fl (first + k * m)) al (λ k. one (first + k * m)) h
 
 taken : (items : Items) (series : Bool) (known : List Known) (first c u v : ℕ) → AreFlat items → IsSourceIn first (sources_in series known first items) v u → ActIn Takes first (acts_in c items) v
 taken nothing series known first c u v are h = elim h [ ]
 taken (leaf_then l more) series known first c u v are (inl h) = inl (h.0, takes l c known u are.0 h.1)
 taken (leaf_then l more) series known first c u v are (inr h) = inr (taken more series (known_next series (known_by first l) known) (first + 1) c u v are.1 h)
-taken (block_then seq_block body more) series known first c u v are h =
-    let at = first + 1 * count body in
-    let next = known_next series (known_behind first body) known in
-    elim (source_split first at (sources_in true known first body) (sources_in series next at more) v u (omega (arith, sources_count body true known first)) h) [
-      | inl l ↦ act_left Takes first (acts_in c body) (acts_in c more) v (taken body true known first c u v are.0 l)
-      | inr r ↦ act_right Takes first at (acts_in c body) (acts_in c more) v (omega (arith, acts_count body c)) (taken more series next at c u v are.1 r)
-    ]
-taken (block_then par_block body more) series known first c u v are h =
-    let at = first + 1 * count body in
-    let next = known_next series (known_behind first body) known in
-    elim (source_split first at (sources_in false known first body) (sources_in series next at more) v u (omega (arith, sources_count body false known first)) h) [
-      | inl l ↦ act_left Takes first (acts_in c body) (acts_in c more) v (taken body false known first c u v are.0 l)
-      | inr r ↦ act_right Takes first at (acts_in c body) (acts_in c more) v (omega (arith, acts_count body c)) (taken more series next at c u v are.1 r)
-    ]
-taken (block_then (for_loop n) body more) series known first c u v are h =
+taken (block_then kind body more) series known first c u v are h =
     let m = count body in
-    let at = first + word_number n * m in
-    let f : ℕ → List (Option ℕ) = λ k. sources_in true known (first + k * m) body in
+    let at = first + copies_of kind * m in
+    let inner = not (is_par kind) in
+    let next = known_next series (if is_loop kind then [] else known_behind first body) known in
+    let f : ℕ → List (Option ℕ) = λ at. sources_in inner known at body in
     let a : ℕ → List Act = λ k. acts_in k body in
-    let fl : (k : ℕ) → length (f k) ≡ m = λ k. sources_count body true known (first + k * m) in
+    let fl : (at : ℕ) → length (f at) ≡ m = λ at. sources_count body inner known at in
     let al : (k : ℕ) → length (a k) ≡ m = λ k. acts_count body k in
-    elim (source_split first at (each_copy (word_number n) f) (sources_in series known at more) v u (omega (arith, each_length (word_number n) m f fl)) h) [
-      | inl l ↦ act_left Takes first (each_copy (word_number n) a) (acts_in c more) v (copies_taken (word_number n) m first u v f a fl al (λ k h. taken body true known (first + k * m) k u v are.0 h) l)
-      | inr r ↦ act_right Takes first at (each_copy (word_number n) a) (acts_in c more) v (omega (arith, each_length (word_number n) m a al)) (taken more series known at c u v are.1 r)
-    ]
-taken (block_then (pfor_loop n) body more) series known first c u v are h =
-    let m = count body in
-    let at = first + word_number n * m in
-    let f : ℕ → List (Option ℕ) = λ k. sources_in true known (first + k * m) body in
-    let a : ℕ → List Act = λ k. acts_in k body in
-    let fl : (k : ℕ) → length (f k) ≡ m = λ k. sources_count body true known (first + k * m) in
-    let al : (k : ℕ) → length (a k) ≡ m = λ k. acts_count body k in
-    elim (source_split first at (each_copy (word_number n) f) (sources_in series known at more) v u (omega (arith, each_length (word_number n) m f fl)) h) [
-      | inl l ↦ act_left Takes first (each_copy (word_number n) a) (acts_in c more) v (copies_taken (word_number n) m first u v f a fl al (λ k h. taken body true known (first + k * m) k u v are.0 h) l)
-      | inr r ↦ act_right Takes first at (each_copy (word_number n) a) (acts_in c more) v (omega (arith, each_length (word_number n) m a al)) (taken more series known at c u v are.1 r)
+    elim (source_split first at (in_block_from kind first m f) (sources_in series next at more) v u (omega (arith, block_length_from kind first m f fl)) h) [
+      | inl l ↦ act_left Takes first (in_block kind c a) (acts_in c more) v (block_taken kind m first c u v f a fl al (λ from d h. taken body inner known from d u v are.0 h) l)
+      | inr r ↦ act_right Takes first at (in_block kind c a) (acts_in c more) v (omega (arith, block_length kind c m a al)) (taken more series next at c u v are.1 r)
     ]
 
 -- leaf u is before leaf v in shapes, and calls
@@ -292,11 +218,11 @@ step : (series : Bool) (new known : List Known) (first at : ℕ) (xs ys : List T
 step series new known first at xs ys ws zs u v e e' calls low high (inl k) =
     elim (from_known series new known u k) [
       | inl n ↦
-          let call = calls n.1 in
-          let range = act_range Calls first ws u call in
+          let calling = calls n.1 in
+          let range = act_range Calls first ws u calling in
           let a = range.0 in
           let b = range.1 in
-          inr (cross series first at xs ys u v n.0 e a (omega (arith, b, e')) low high, act_left Calls first ws zs u call)
+          inr (cross series first at xs ys u v n.0 e a (omega (arith, b, e')) low high, act_left Calls first ws zs u calling)
       | inr old ↦ inl old
     ]
 step series new known first at xs ys ws zs u v e e' calls low high (inr f) = inr (found_right series first at xs ys ws zs u v e e' f)
@@ -304,38 +230,50 @@ step series new known first at xs ys ws zs u v e e' calls low high (inr f) = inr
 -- where the sources of the copies of a loop are
 copies_sourced : (n m : ℕ) (outer : Bool) (known : List Known) (first u v : ℕ) (f : ℕ → List (Option ℕ)) (g : ℕ → List Tree) (a : ℕ → List Act)
     → ((k : ℕ) → length (f k) ≡ m) → ((k : ℕ) → total (g k) ≡ m) → ((k : ℕ) → length (a k) ≡ m)
-    → ((k : ℕ) → IsSourceIn (first + k * m) (f k) v u → HasLeaf known u ⊎ Found outer (first + k * m) (g k) (a k) u v)
-    → IsSourceIn first (each_copy n f) v u → HasLeaf known u ⊎ Found outer first (each_copy n g) (each_copy n a) u v
+    → ((k c : ℕ) → IsSourceIn (first + k * m) (f k) v u → HasLeaf known u ⊎ Found true (first + k * m) (g c) (a c) u v)
+    → IsSourceIn first (each_copy n f) v u → HasLeaf known u ⊎ Found outer first (each_copy n (λ k. join_list seq (g k))) (each_copy n a) u v
 copies_sourced zero m outer known first u v f g a fl gl al one h = elim h [ ]
 copies_sourced (suc n) m outer known first u v f g a fl gl al one h =
-    elim (source_split first (first + n * m) (each_copy n f) (f n) v u (omega (arith, each_length n m f fl)) h) [
+    let at = first + n * m in
+    let shapes : ℕ → List Tree = λ k. join_list seq (g k) in
+    let long = each_total n m shapes (λ k. joined_total seq_block (g k) ∙ gl k) in
+    elim (source_split first at (each_copy n f) (f n) v u (omega (arith, each_length n m f fl)) h) [
       | inl l ↦ elim (copies_sourced n m outer known first u v f g a fl gl al one l) [
         | inl k ↦ inl k
-        | inr x ↦ inr (found_left outer first (each_copy n g) (g n) (each_copy n a) (a n) u v x)
+        | inr x ↦ inr (found_left outer first (each_copy n shapes) (shapes n) (each_copy n a) (a n) u v x)
       ]
-      | inr r ↦ elim (one n r) [
+      | inr r ↦ elim (one n n r) [
         | inl k ↦ inl k
-        | inr x ↦ inr (found_right outer first (first + n * m) (each_copy n g) (g n) (each_copy n a) (a n) u v (omega (arith, each_total n m g gl)) (omega (arith, each_length n m a al)) x)
+        | inr x ↦ inr (found_right outer first at (each_copy n shapes) (shapes n) (each_copy n a) (a n) u v (omega (arith, long)) (omega (arith, each_length n m a al))
+            (joined_list true outer (g n) at u v x.0, x.1))
       ]
     ]
 
--- joined, in a list of either kind, and with more behind
-joined_found : (inner series : Bool) (known : List Known) (first : ℕ) (xs ys : List Tree) (ws zs : List Act) (u v : ℕ)
-    → HasLeaf known u ⊎ Found inner first xs ws u v → HasLeaf known u ⊎ Found series first (join_list (kind_by inner) xs ++ ys) (ws ++ zs) u v
-joined_found inner series known first xs ys ws zs u v (inl k) = inl k
-joined_found inner series known first xs ys ws zs u v (inr f) =
-    inr (found_left series first (join_list (kind_by inner) xs) ys ws zs u v (joined_list inner series xs first u v f.0, f.1))
+-- where those of a block are
+block_sourced : (kind : BlockKind) (m : ℕ) (known : List Known) (first c u v : ℕ) (f : ℕ → List (Option ℕ)) (g : ℕ → List Tree) (a : ℕ → List Act)
+    → ((at : ℕ) → length (f at) ≡ m) → ((k : ℕ) → total (g k) ≡ m) → ((k : ℕ) → length (a k) ≡ m)
+    → ((at c : ℕ) → IsSourceIn at (f at) v u → HasLeaf known u ⊎ Found (not (is_par kind)) at (g c) (a c) u v)
+    → IsSourceIn first (in_block_from kind first m f) v u → HasLeaf known u ⊎ Found (joins_series kind) first (in_block kind c (λ k. copy_shapes kind (g k))) (in_block kind c a) u v
+block_sourced seq_block m known first c u v f g a fl gl al one h = one first c h
+block_sourced par_block m known first c u v f g a fl gl al one h = one first c h
+block_sourced (for_loop n) m known first c u v f g a fl gl al one h =
+    copies_sourced (word_number n) m true known first u v (λ k. f (first + k * m)) g a (λ k. fl (first + k * m)) gl al (λ k. one (first + k * m)) h
+block_sourced (pfor_loop n) m known first c u v f g a fl gl al one h =
+    copies_sourced (word_number n) m false known first u v (λ k. f (first + k * m)) g a (λ k. fl (first + k * m)) gl al (λ k. one (first + k * m)) h
 
-copy_found : (outer : Bool) (known : List Known) (first : ℕ) (xs : List Tree) (ws : List Act) (u v : ℕ)
-    → HasLeaf known u ⊎ Found true first xs ws u v → HasLeaf known u ⊎ Found outer first (join_list seq xs) ws u v
-copy_found outer known first xs ws u v (inl k) = inl k
-copy_found outer known first xs ws u v (inr f) = inr (joined_list true outer xs first u v f.0, f.1)
+-- joined, in a list of either kind, and with more behind
+joined_found : (kind : BlockKind) (series : Bool) (known : List Known) (first : ℕ) (xs ys : List Tree) (ws zs : List Act) (u v : ℕ)
+    → HasLeaf known u ⊎ Found (joins_series kind) first xs ws u v → HasLeaf known u ⊎ Found series first (join_list (join_in kind) xs ++ ys) (ws ++ zs) u v
+joined_found kind series known first xs ys ws zs u v (inl k) = inl k
+joined_found kind series known first xs ys ws zs u v (inr f) =
+    inr (found_left series first (join_list (join_in kind) xs) ys ws zs u v
+    (subst (λ join. IsBeforeIn series first (join_list join xs) u v) (join_is kind) (joined_list (joins_series kind) series xs first u v f.0), f.1))
 
 -- A source was known at first, or is a call before the leaf.
 sourced : (items : Items) (series : Bool) (known : List Known) (first c u v : ℕ) → AreFlat items → IsSourceIn first (sources_in series known first items) v u
     → HasLeaf known u ⊎ Found series first (shapes_in c items) (acts_in c items) u v
 sourced nothing series known first c u v are h = elim h [ ]
-sourced (leaf_then l more) series known first c u v are (inl h) = inl (source_known known l u h.1)
+sourced (leaf_then l more) series known first c u v are (inl h) = inl (used_known known (name_used l) u h.1)
 sourced (leaf_then l more) series known first c u v are (inr h) =
     let next = known_next series (known_by first l) known in
     let range = source_range (first + 1) (sources_in series next (first + 1) more) v u h in
@@ -343,69 +281,31 @@ sourced (leaf_then l more) series known first c u v are (inr h) =
     step series (known_by first l) known first (first + 1) (leaf ∷ []) (shapes_in c more) (act_of c l ∷ []) (acts_in c more) u v (omega arith) (omega arith)
     (λ k. given l first c u are.0 k) range.0 (omega (arith, high, sources_count more series next (first + 1), shapes_count more c))
     (sourced more series next (first + 1) c u v are.1 h)
-sourced (block_then seq_block body more) series known first c u v are h =
-    let at = first + 1 * count body in
-    let next = known_next series (known_behind first body) known in
-    let xs = shapes_in c body in
-    elim (source_split first at (sources_in true known first body) (sources_in series next at more) v u (omega (arith, sources_count body true known first)) h) [
-      | inl l ↦ joined_found true series known first xs (shapes_in c more) (acts_in c body) (acts_in c more) u v (sourced body true known first c u v are.0 l)
+sourced (block_then kind body more) series known first c u v are h =
+    let m = count body in
+    let at = first + copies_of kind * m in
+    let inner = not (is_par kind) in
+    let new = if is_loop kind then [] else known_behind first body in
+    let next = known_next series new known in
+    let f : ℕ → List (Option ℕ) = λ at. sources_in inner known at body in
+    let g : ℕ → List Tree = λ k. shapes_in k body in
+    let a : ℕ → List Act = λ k. acts_in k body in
+    let fl : (at : ℕ) → length (f at) ≡ m = λ at. sources_count body inner known at in
+    let gl : (k : ℕ) → total (g k) ≡ m = λ k. shapes_count body k in
+    let al : (k : ℕ) → length (a k) ≡ m = λ k. acts_count body k in
+    let xs = in_block kind c (λ k. copy_shapes kind (g k)) in
+    let ws = in_block kind c a in
+    elim (source_split first at (in_block_from kind first m f) (sources_in series next at more) v u (omega (arith, block_length_from kind first m f fl)) h) [
+      | inl l ↦ joined_found kind series known first xs (shapes_in c more) ws (acts_in c more) u v
+          (block_sourced kind m known first c u v f g a fl gl al (λ from d h. sourced body inner known from d u v are.0 h) l)
       | inr r ↦
           let range = source_range at (sources_in series next at more) v u r in
           let high = range.1 in
-          step series (known_behind first body) known first at (join_list seq xs) (shapes_in c more) (acts_in c body) (acts_in c more) u v
-          (omega (arith, total_joined true xs, shapes_count body c)) (omega (arith, acts_count body c))
-          (λ k. known_calls body first c u are.0 k) range.0 (omega (arith, high, sources_count more series next at, shapes_count more c))
+          step series new known first at (join_list (join_in kind) xs) (shapes_in c more) ws (acts_in c more) u v
+          (omega (arith, joined_total kind xs, block_total kind c m (λ k. copy_shapes kind (g k)) (λ k. copy_total kind (g k) ∙ gl k))) (omega (arith, block_length kind c m a al))
+          (λ k. block_calls kind c first u (known_behind first body) a (λ h. known_calls body first c u are.0 h) k) range.0
+          (omega (arith, high, sources_count more series next at, shapes_count more c))
           (sourced more series next at c u v are.1 r)
-    ]
-sourced (block_then par_block body more) series known first c u v are h =
-    let at = first + 1 * count body in
-    let next = known_next series (known_behind first body) known in
-    let xs = shapes_in c body in
-    elim (source_split first at (sources_in false known first body) (sources_in series next at more) v u (omega (arith, sources_count body false known first)) h) [
-      | inl l ↦ joined_found false series known first xs (shapes_in c more) (acts_in c body) (acts_in c more) u v (sourced body false known first c u v are.0 l)
-      | inr r ↦
-          let range = source_range at (sources_in series next at more) v u r in
-          let high = range.1 in
-          step series (known_behind first body) known first at (join_list par xs) (shapes_in c more) (acts_in c body) (acts_in c more) u v
-          (omega (arith, total_joined false xs, shapes_count body c)) (omega (arith, acts_count body c))
-          (λ k. known_calls body first c u are.0 k) range.0 (omega (arith, high, sources_count more series next at, shapes_count more c))
-          (sourced more series next at c u v are.1 r)
-    ]
-sourced (block_then (for_loop n) body more) series known first c u v are h =
-    let m = count body in
-    let at = first + word_number n * m in
-    let f : ℕ → List (Option ℕ) = λ k. sources_in true known (first + k * m) body in
-    let g : ℕ → List Tree = λ k. join_list seq (shapes_in k body) in
-    let a : ℕ → List Act = λ k. acts_in k body in
-    let fl : (k : ℕ) → length (f k) ≡ m = λ k. sources_count body true known (first + k * m) in
-    let gl : (k : ℕ) → total (g k) ≡ m = λ k. total_joined true (shapes_in k body) ∙ shapes_count body k in
-    let al : (k : ℕ) → length (a k) ≡ m = λ k. acts_count body k in
-    elim (source_split first at (each_copy (word_number n) f) (sources_in series known at more) v u (omega (arith, each_length (word_number n) m f fl)) h) [
-      | inl l ↦ joined_found true series known first (each_copy (word_number n) g) (shapes_in c more) (each_copy (word_number n) a) (acts_in c more) u v
-          (copies_sourced (word_number n) m true known first u v f g a fl gl al (λ k h. copy_found true known (first + k * m) (shapes_in k body) (acts_in k body) u v (sourced body true known (first + k * m) k u v are.0 h)) l)
-      | inr r ↦ elim (sourced more series known at c u v are.1 r) [
-        | inl k ↦ inl k
-        | inr x ↦ inr (found_right series first at (join_list seq (each_copy (word_number n) g)) (shapes_in c more) (each_copy (word_number n) a) (acts_in c more) u v
-            (omega (arith, total_joined true (each_copy (word_number n) g), each_total (word_number n) m g gl)) (omega (arith, each_length (word_number n) m a al)) x)
-      ]
-    ]
-sourced (block_then (pfor_loop n) body more) series known first c u v are h =
-    let m = count body in
-    let at = first + word_number n * m in
-    let f : ℕ → List (Option ℕ) = λ k. sources_in true known (first + k * m) body in
-    let g : ℕ → List Tree = λ k. join_list seq (shapes_in k body) in
-    let a : ℕ → List Act = λ k. acts_in k body in
-    let fl : (k : ℕ) → length (f k) ≡ m = λ k. sources_count body true known (first + k * m) in
-    let gl : (k : ℕ) → total (g k) ≡ m = λ k. total_joined true (shapes_in k body) ∙ shapes_count body k in
-    let al : (k : ℕ) → length (a k) ≡ m = λ k. acts_count body k in
-    elim (source_split first at (each_copy (word_number n) f) (sources_in series known at more) v u (omega (arith, each_length (word_number n) m f fl)) h) [
-      | inl l ↦ joined_found false series known first (each_copy (word_number n) g) (shapes_in c more) (each_copy (word_number n) a) (acts_in c more) u v
-          (copies_sourced (word_number n) m false known first u v f g a fl gl al (λ k h. copy_found false known (first + k * m) (shapes_in k body) (acts_in k body) u v (sourced body true known (first + k * m) k u v are.0 h)) l)
-      | inr r ↦ elim (sourced more series known at c u v are.1 r) [
-        | inl k ↦ inl k
-        | inr x ↦ inr (found_right series first at (join_list par (each_copy (word_number n) g)) (shapes_in c more) (each_copy (word_number n) a) (acts_in c more) u v
-            (omega (arith, total_joined false (each_copy (word_number n) g), each_total (word_number n) m g gl)) (omega (arith, each_length (word_number n) m a al)) x)
-      ]
     ]
 
 -- by number

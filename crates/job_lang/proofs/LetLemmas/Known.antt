@@ -6,17 +6,18 @@ use Rattle.job_names.specs.declared.scopes.Let.{Let}
 use Rattle.job_names.specs.Names.{same_name}
 use Rattle.job_names.proofs.SameNames.{same_from, same_to}
 use Rattle.job_syntax.specs.declared.lexer.word.Word.TheVariants.{Open}
-use Rattle.job_syntax.specs.Blocks.{word_number}
-use Rattle.job_syntax.specs.Grammar.{Leaf, with_argument, stack_pop, queue_take, bound, seq_block, par_block, for_loop, pfor_loop, Items, nothing, leaf_then, block_then, ◌then◌, leaf_words, kind_words, items_words, is_loop, is_par}
+use Rattle.job_syntax.specs.Blocks.{copies_of}
+use Rattle.job_syntax.specs.Grammar.{Leaf, work, call, bound, BlockKind, seq_block, par_block, for_loop, pfor_loop, Items, nothing, leaf_then, block_then, ◌then◌, leaf_words, kind_words, items_words, is_loop, is_par}
 use Rattle.job_syntax.specs.Visibility.{is_in_series}
 use Rattle.job_syntax.specs.Code.Shown.{OpenBlock}
 use Rattle.job_syntax.specs.Code.Reached.{opening_words}
-use Rattle.job_syntax.proofs.ParserLemmas.LetsSeen.{HasLet, lets_of, lets_behind, lets_seen, block_length}
+use Rattle.job_syntax.proofs.ParserLemmas.LetsSeen.{HasLet, lets_of, lets_behind, lets_seen}
+use Rattle.job_syntax.proofs.ParserLemmas.LetsSeen as seen
 use Rattle.job_syntax.proofs.ParserLemmas.Seen.{kinds_of}
 use Rattle.job_lang.specs.Counts.{count}
-use Rattle.job_lang.specs.Meaning.{each_copy, Known, leaf_known, known_by, known_behind, known_next}
-use Rattle.job_lang.specs.Places.{PlacedLeaf, placed_in}
-use Rattle.job_lang.proofs.ExpandLemmas.Leaves.{each_length}
+use Rattle.job_lang.specs.Meaning.{in_block, Known, leaf_known, known_by, known_behind, known_next}
+use Rattle.job_lang.specs.Places.{PlacedLeaf, with_copy, placed_in}
+use Rattle.job_lang.proofs.ExpandLemmas.Blocks.{block_length}
 use Rattle.job_lang.proofs.LetLemmas.Lists.{EachWith, each_both, Part, part_left, part_right, part_head, part_tail}
 use Rattle.job_lang.proofs.LetLemmas.Orders.{IsBelow, IsSorted, below_has}
 
@@ -27,28 +28,12 @@ pub placed_count : (items : Items) (at : ℕ) (copies : List ℕ) → length (pl
 placed_count nothing at copies = refl
 placed_count (leaf_then leaf more) at copies =
     let rest = placed_count more (at + length (leaf_words leaf)) copies in omega (arith, rest)
-placed_count (block_then seq_block body more) at copies =
-    let inside = at + length (kind_words seq_block ++ Open ∷ []) in
-    let next = at + length (items_words (block_then seq_block body nothing)) in
-    let one = placed_count body inside copies in
-    both_count (placed_in inside copies body) (placed_in next copies more) (1 * count body) (count more) (one ∙ omega arith) (placed_count more next copies)
-placed_count (block_then par_block body more) at copies =
-    let inside = at + length (kind_words par_block ++ Open ∷ []) in
-    let next = at + length (items_words (block_then par_block body nothing)) in
-    let one = placed_count body inside copies in
-    both_count (placed_in inside copies body) (placed_in next copies more) (1 * count body) (count more) (one ∙ omega arith) (placed_count more next copies)
-placed_count (block_then (for_loop n) body more) at copies =
-    let inside = at + length (kind_words (for_loop n) ++ Open ∷ []) in
-    let next = at + length (items_words (block_then (for_loop n) body nothing)) in
-    let copy : ℕ → List PlacedLeaf = λ k. placed_in inside (copies ++ k ∷ []) body in
-    both_count (each_copy (word_number n) copy) (placed_in next copies more) (word_number n * count body) (count more)
-    (each_length (word_number n) (count body) copy (λ k. placed_count body inside (copies ++ k ∷ []))) (placed_count more next copies)
-placed_count (block_then (pfor_loop n) body more) at copies =
-    let inside = at + length (kind_words (pfor_loop n) ++ Open ∷ []) in
-    let next = at + length (items_words (block_then (pfor_loop n) body nothing)) in
-    let copy : ℕ → List PlacedLeaf = λ k. placed_in inside (copies ++ k ∷ []) body in
-    both_count (each_copy (word_number n) copy) (placed_in next copies more) (word_number n * count body) (count more)
-    (each_length (word_number n) (count body) copy (λ k. placed_count body inside (copies ++ k ∷ []))) (placed_count more next copies)
+placed_count (block_then kind body more) at copies =
+    let inside = at + length (kind_words kind ++ Open ∷ []) in
+    let next = at + length (items_words (block_then kind body nothing)) in
+    let copy : ℕ → List PlacedLeaf = λ k. placed_in inside (with_copy kind copies k) body in
+    both_count (in_block kind 0 copy) (placed_in next copies more) (copies_of kind * count body) (count more)
+    (block_length kind 0 (count body) copy (λ k. placed_count body inside (with_copy kind copies k))) (placed_count more next copies)
 
 -- What is known of a name is the leaf of a let of the name, at the place of the let, in these copies or in some around
 -- them.
@@ -62,8 +47,8 @@ pub record IsKnownAt (all : List PlacedLeaf) (copies : List ℕ) (known : Known)
   pub inner : List ℕ
   pub same : from.copies ++ inner ≡ copies
 
-pub deeper : (all : List PlacedLeaf) (copies : List ℕ) (copy : ℕ) (known : Known) (seen : Let) → IsKnownAt all copies known seen → IsKnownAt all (copies ++ copy ∷ []) known seen
-deeper all copies copy known seen k = record {
+in_copy : (all : List PlacedLeaf) (copies : List ℕ) (copy : ℕ) (known : Known) (seen : Let) → IsKnownAt all copies known seen → IsKnownAt all (copies ++ copy ∷ []) known seen
+in_copy all copies copy known seen k = record {
   name = k.name;
   from = k.from;
   stands = k.stands;
@@ -74,25 +59,40 @@ deeper all copies copy known seen k = record {
   same = sym (append_assoc k.from.copies k.inner (copy ∷ [])) ∙ ap (λ c. c ++ copy ∷ []) k.same;
 }
 
+pub deeper : (kind : BlockKind) (all : List PlacedLeaf) (copies : List ℕ) (copy : ℕ) (known : Known) (seen : Let) → IsKnownAt all copies known seen → IsKnownAt all (with_copy kind copies copy) known seen
+deeper seq_block all copies copy known seen k = k
+deeper par_block all copies copy known seen k = k
+deeper (for_loop n) all copies copy known seen k = in_copy all copies copy known seen k
+deeper (pfor_loop n) all copies copy known seen k = in_copy all copies copy known seen k
+
 module _ (all : List PlacedLeaf) where
   pub leaf_known_at : (leaf : Leaf) (at first : ℕ) (copies : List ℕ) → slice_get all first ≡ Some (record { leaf = leaf; before = at; copies = copies })
       → EachWith (IsKnownAt all copies) (known_by first leaf) (lets_of at leaf)
-  leaf_known_at (with_argument op argument) at first copies e = tt
-  leaf_known_at (stack_pop named) at first copies e = tt
-  leaf_known_at (queue_take named) at first copies e = tt
-  leaf_known_at (bound name call) at first copies e = (
+  leaf_known_at (work argument) at first copies e = tt
+  leaf_known_at (call verb object argument) at first copies e = tt
+  leaf_known_at (bound name given) at first copies e = (
     record {
       name = refl;
-      from = record { leaf = bound name call; before = at; copies = copies };
+      from = record { leaf = bound name given; before = at; copies = copies };
       stands = e;
       place = refl;
-      call = call;
+      call = given;
       binds = refl;
       inner = [];
       same = append-nil copies;
     },
     tt,
   )
+
+  -- what is known behind a block, where this is so behind its body
+  pub block_known_at : (kind : BlockKind) (body : Items) (inside first : ℕ) (copies : List ℕ)
+      → ((around : List ℕ) → Part first (placed_in inside around body) all → EachWith (IsKnownAt all around) (known_behind first body) (lets_behind inside body))
+      → Part first (in_block kind 0 (λ k. placed_in inside (with_copy kind copies k) body)) all
+      → EachWith (IsKnownAt all copies) (if is_loop kind then [] else known_behind first body) (if is_loop kind then [] else lets_behind inside body)
+  block_known_at seq_block body inside first copies one h = one copies h
+  block_known_at par_block body inside first copies one h = one copies h
+  block_known_at (for_loop n) body inside first copies one h = tt
+  block_known_at (pfor_loop n) body inside first copies one h = tt
 
   pub behind_known_at : (items : Items) (at first : ℕ) (copies : List ℕ) → Part first (placed_in at copies items) all → EachWith (IsKnownAt all copies) (known_behind first items) (lets_behind at items)
   behind_known_at nothing at first copies h = tt
@@ -102,36 +102,15 @@ module _ (all : List PlacedLeaf) where
       each_both (IsKnownAt all copies) (known_behind (first + 1) more) (known_by first leaf) (lets_behind next more) (lets_of at leaf)
       (behind_known_at more next (first + 1) copies (part_tail first here (placed_in next copies more) all h))
       (leaf_known_at leaf at first copies (part_head first here (placed_in next copies more) all h))
-  behind_known_at (block_then seq_block body more) at first copies h =
-      let inside = at + length (kind_words seq_block ++ Open ∷ []) in
-      let next = at + length (items_words (block_then seq_block body nothing)) in
-      let leaves = placed_in inside copies body in
-      each_both (IsKnownAt all copies) (known_behind (first + 1 * count body) more) (known_behind first body) (lets_behind next more) (lets_behind inside body)
-      (behind_known_at more next (first + 1 * count body) copies (part_right first (first + 1 * count body) leaves (placed_in next copies more) all (omega (arith, placed_count body inside copies)) h))
-      (behind_known_at body inside first copies (part_left first leaves (placed_in next copies more) all h))
-  behind_known_at (block_then par_block body more) at first copies h =
-      let inside = at + length (kind_words par_block ++ Open ∷ []) in
-      let next = at + length (items_words (block_then par_block body nothing)) in
-      let leaves = placed_in inside copies body in
-      each_both (IsKnownAt all copies) (known_behind (first + 1 * count body) more) (known_behind first body) (lets_behind next more) (lets_behind inside body)
-      (behind_known_at more next (first + 1 * count body) copies (part_right first (first + 1 * count body) leaves (placed_in next copies more) all (omega (arith, placed_count body inside copies)) h))
-      (behind_known_at body inside first copies (part_left first leaves (placed_in next copies more) all h))
-  behind_known_at (block_then (for_loop n) body more) at first copies h =
-      let inside = at + length (kind_words (for_loop n) ++ Open ∷ []) in
-      let next = at + length (items_words (block_then (for_loop n) body nothing)) in
-      let leaves = each_copy (word_number n) (λ k. placed_in inside (copies ++ k ∷ []) body) in
-      let long = each_length (word_number n) (count body) (λ k. placed_in inside (copies ++ k ∷ []) body) (λ k. placed_count body inside (copies ++ k ∷ [])) in
-      each_both (IsKnownAt all copies) (known_behind (first + word_number n * count body) more) [] (lets_behind next more) []
-      (behind_known_at more next (first + word_number n * count body) copies (part_right first (first + word_number n * count body) leaves (placed_in next copies more) all (omega (arith, long)) h))
-      tt
-  behind_known_at (block_then (pfor_loop n) body more) at first copies h =
-      let inside = at + length (kind_words (pfor_loop n) ++ Open ∷ []) in
-      let next = at + length (items_words (block_then (pfor_loop n) body nothing)) in
-      let leaves = each_copy (word_number n) (λ k. placed_in inside (copies ++ k ∷ []) body) in
-      let long = each_length (word_number n) (count body) (λ k. placed_in inside (copies ++ k ∷ []) body) (λ k. placed_count body inside (copies ++ k ∷ [])) in
-      each_both (IsKnownAt all copies) (known_behind (first + word_number n * count body) more) [] (lets_behind next more) []
-      (behind_known_at more next (first + word_number n * count body) copies (part_right first (first + word_number n * count body) leaves (placed_in next copies more) all (omega (arith, long)) h))
-      tt
+  behind_known_at (block_then kind body more) at first copies h =
+      let inside = at + length (kind_words kind ++ Open ∷ []) in
+      let next = at + length (items_words (block_then kind body nothing)) in
+      let behind = first + copies_of kind * count body in
+      let copy : ℕ → List PlacedLeaf = λ k. placed_in inside (with_copy kind copies k) body in
+      let long = block_length kind 0 (count body) copy (λ k. placed_count body inside (with_copy kind copies k)) in
+      each_both (IsKnownAt all copies) (known_behind behind more) (if is_loop kind then [] else known_behind first body) (lets_behind next more) (if is_loop kind then [] else lets_behind inside body)
+      (behind_known_at more next behind copies (part_right first behind (in_block kind 0 copy) (placed_in next copies more) all (omega (arith, long)) h))
+      (block_known_at kind body inside first copies (λ around part. behind_known_at body inside first around part) (part_left first (in_block kind 0 copy) (placed_in next copies more) all h))
 
 -- the lets seen behind one more item
 
@@ -146,7 +125,7 @@ lets_then (leaf_then leaf more) item at next e =
 lets_then (block_then kind body more) item at next e =
     let inner = at + length (items_words (block_then kind body nothing)) in
     let given = if is_loop kind then [] else lets_behind (at + length (kind_words kind ++ Open ∷ [])) body in
-    let long = block_length kind body (items_words more) in
+    let long = seen.block_length kind body (items_words more) in
     ap (λ lets. lets ++ given) (lets_then more item inner next (omega (arith, e, long))) ∙ append_assoc (lets_behind next item) (lets_behind inner more) given
 
 par_then : (par : Bool) (all new old outer : List Let) → all ≡ new ++ old → (if par then [] else all) ++ outer ≡ (if not par then new else []) ++ ((if par then [] else old) ++ outer)

@@ -1,8 +1,10 @@
 -- Two lists, element by element, and a list that is a part of another.
 use Rattle.std.proofs.Common.{ℕ, zero, suc, ◌≡◌, ◌+◌, ◌*◌, List, [], ◌∷◌, ◌++◌, length, Some, arith, refl, ap, subst}
 use Rattle.std.specs.Prelude.{slice_get}
-use Rattle.job_lang.specs.Meaning.{each_copy}
-use Rattle.job_lang.proofs.ExpandLemmas.Leaves.{each_length}
+use Rattle.job_syntax.specs.Grammar.{BlockKind, seq_block, par_block, for_loop, pfor_loop}
+use Rattle.job_syntax.specs.Blocks.{word_number}
+use Rattle.job_lang.specs.Meaning.{each_copy, in_block, in_block_from}
+use Rattle.job_lang.proofs.ExpandLemmas.Blocks.{each_length}
 
 abbrev pub EachWith : {X Y : Type 0} → (X → Y → Type 0) → List X → List Y → Type 0
 EachWith P [] [] = Unit {0}
@@ -68,10 +70,17 @@ part_tail first x xs all h i y e =
     subst (λ n. slice_get all n ≡ Some y) same (h (suc i) y e)
 
 -- copy by copy
-pub each_copies : {X Y : Type 0} (P : X → Y → Type 0) (n m first : ℕ) (f : ℕ → List X) (g : ℕ → List Y) (all : List Y) → ((k : ℕ) → length (g k) ≡ m)
+each_copies : {X Y : Type 0} (P : X → Y → Type 0) (n m first : ℕ) (f : ℕ → List X) (g : ℕ → List Y) (all : List Y) → ((k : ℕ) → length (g k) ≡ m)
     → ((k : ℕ) → Part (first + k * m) (g k) all → EachWith P (f k) (g k)) → Part first (each_copy n g) all → EachWith P (each_copy n f) (each_copy n g)
 each_copies P zero m first f g all long one h = tt
 each_copies P (suc n) m first f g all long one h =
     each_both P (each_copy n f) (f n) (each_copy n g) (g n)
     (each_copies P n m first f g all long one (part_left first (each_copy n g) (g n) all h))
     (one n (part_right first (first + n * m) (each_copy n g) (g n) all (omega (arith, each_length n m g long)) h))
+
+pub each_in_block : {X Y : Type 0} (P : X → Y → Type 0) (kind : BlockKind) (m first : ℕ) (f : ℕ → List X) (g : ℕ → List Y) (all : List Y) → ((k : ℕ) → length (g k) ≡ m)
+    → ((from k : ℕ) → Part from (g k) all → EachWith P (f from) (g k)) → Part first (in_block kind 0 g) all → EachWith P (in_block_from kind first m f) (in_block kind 0 g)
+each_in_block P seq_block m first f g all long one h = one first 0 h
+each_in_block P par_block m first f g all long one h = one first 0 h
+each_in_block P (for_loop n) m first f g all long one h = each_copies P (word_number n) m first (λ k. f (first + k * m)) g all long (λ k. one (first + k * m) k) h
+each_in_block P (pfor_loop n) m first f g all long one h = each_copies P (word_number n) m first (λ k. f (first + k * m)) g all long (λ k. one (first + k * m) k) h

@@ -1,13 +1,13 @@
 -- The source of each leaf is the leaf of the let that its use means.
-use Rattle.std.proofs.Common.{ℕ, ◌≡◌, ◌+◌, ◌-◌, ◌*◌, Bool, true, false, List, [], ◌∷◌, ◌++◌, length, length-append, take, Option, Some, None, arith, refl, sym, ap, ◌∙◌, subst, append_assoc, append-nil}
-use Rattle.std.specs.Prelude.{if◌then◌else◌, IsTrue, slice_get}
+use Rattle.std.proofs.Common.{ℕ, ◌≡◌, ◌+◌, ◌-◌, ◌*◌, Bool, true, not, List, [], ◌∷◌, ◌++◌, length, length-append, take, Option, Some, None, arith, refl, sym, ap, ◌∙◌, subst, append_assoc, append-nil}
+use Rattle.std.specs.Prelude.{if◌then◌else◌, IsTrue, option_and_then, slice_get}
 use Rattle.std.proofs.Math.Seq.{take-append_seam}
 use Rattle.job_names.specs.declared.name.Name.{Name}
 use Rattle.job_names.specs.Scopes.{Scope}
 use Rattle.job_syntax.specs.declared.lexer.word.Word.{Word}
 use Rattle.job_syntax.specs.declared.lexer.word.Word.TheVariants.{Open, Close, Named}
-use Rattle.job_syntax.specs.Blocks.{word_number}
-use Rattle.job_syntax.specs.Grammar.{UnaryOp, Leaf, with_argument, stack_pop, queue_take, bound, BlockKind, seq_block, par_block, for_loop, pfor_loop, Items, nothing, leaf_then, block_then, ◌then◌, leaf_words, kind_words, items_words, IsCall, IsLeaf}
+use Rattle.job_syntax.specs.Blocks.{copies_of}
+use Rattle.job_syntax.specs.Grammar.{Leaf, BlockKind, seq_block, par_block, for_loop, pfor_loop, is_loop, is_par, Items, nothing, leaf_then, block_then, ◌then◌, leaf_words, kind_words, items_words, IsCall, IsLeaf}
 use Rattle.job_syntax.specs.Visibility.{is_in_series}
 use Rattle.job_syntax.specs.Code.Shown.{OpenBlock, scope_at, is_shown, IsShownLeaf, AreShown}
 use Rattle.job_syntax.specs.Code.Reached.{opening_words}
@@ -17,54 +17,22 @@ use Rattle.job_syntax.proofs.ParserLemmas.LetsSeen.{lets_seen, place_seen}
 use Rattle.job_syntax.proofs.ParserLemmas.Seen.{kinds_of, begun_words, begun_closes, visible_is_seen}
 use Rattle.job_syntax.proofs.ParserLemmas.Visible.{seen_is_visible}
 use Rattle.job_syntax.proofs.ParserLemmas.Shown.{shown_to}
+use Rattle.job_syntax.specs.Arguments.{name_used}
 use Rattle.job_lang.specs.Counts.{count}
-use Rattle.job_lang.specs.Meaning.{each_copy, Known, leaf_known, source_of, known_by, known_behind, known_next, sources_in}
-use Rattle.job_lang.specs.Places.{PlacedLeaf, placed_in, placed_leaves, name_used, MeansLet, HasItsLet, IsSourceOf, HaveTheirLets}
-use Rattle.job_lang.proofs.ExpandLemmas.Leaves.{each_length}
-use Rattle.job_lang.proofs.ExpandLemmas.Vanishing.{nothing_new}
-use Rattle.job_lang.proofs.LetLemmas.Lists.{EachWith, each_both, each_from, each_long, each_get, Part, part_left, part_right, part_head, part_tail, each_copies}
+use Rattle.job_lang.specs.Meaning.{in_block, in_block_from, Known, leaf_known, source_of, known_by, known_behind, known_next, sources_in}
+use Rattle.job_lang.specs.Places.{PlacedLeaf, with_copy, placed_in, placed_leaves, MeansLet, HasItsLet, IsSourceOf, HaveTheirLets}
+use Rattle.job_syntax.proofs.ParserLemmas.Calls.{IsBegun, begun, used_shown}
+use Rattle.job_lang.proofs.ExpandLemmas.Blocks.{block_length}
+use Rattle.job_lang.proofs.LetLemmas.Lists.{EachWith, each_both, each_from, each_long, each_get, Part, part_left, part_right, part_head, part_tail, each_in_block}
 use Rattle.job_lang.proofs.LetLemmas.Orders.{seen_sorted}
-use Rattle.job_lang.proofs.LetLemmas.Known.{placed_count, IsKnownAt, deeper, leaf_known_at, behind_known_at, step_known, last_seen}
+use Rattle.job_lang.proofs.LetLemmas.Known.{placed_count, IsKnownAt, deeper, leaf_known_at, block_known_at, behind_known_at, step_known, last_seen}
 
--- the words of a leaf with an argument: what is begun, and the argument
-record IsBegun (leaf : Leaf) : Type 0 where
-  given : Option Name
-  op : UnaryOp
-  argument : Word
-  is : leaf_words leaf ≡ begun_words given op ++ argument ∷ []
-
-begun_call : (name : Name) (call : Leaf) (used : Name) → IsCall true call → name_used call ≡ Some used → IsBegun (bound name call)
-begun_call name (with_argument op w) used is e = record { given = Some name; op = op; argument = w; is = refl }
-begun_call name (stack_pop named) used is e = cc
-begun_call name (queue_take named) used is e = cc
-begun_call name (bound other call) used is e = elim is [ ]
-
-begun : (leaf : Leaf) (used : Name) → IsLeaf true leaf → name_used leaf ≡ Some used → IsBegun leaf
-begun (with_argument op w) used is e = record { given = None; op = op; argument = w; is = refl }
-begun (stack_pop named) used is e = cc
-begun (queue_take named) used is e = cc
-begun (bound name call) used is e = begun_call name call used is e
-
-used_source : (known : List Known) (leaf : Leaf) (name : Name) → name_used leaf ≡ Some name → source_of known leaf ≡ leaf_known known name
-used_source known (with_argument op (Named other)) name e = let same : other ≡ name = cc in ap (leaf_known known) same
-used_source known (with_argument op _) name e = cc
-used_source known (stack_pop named) name e = cc
-used_source known (queue_take named) name e = cc
-used_source known (bound given call) name e = used_source known call name e
-
-no_source : (known : List Known) (leaf : Leaf) → name_used leaf ≡ None → source_of known leaf ≡ None
-no_source known (with_argument op (Named other)) e = cc
-no_source known (with_argument op _) e = refl
-no_source known (stack_pop named) e = refl
-no_source known (queue_take named) e = refl
-no_source known (bound given call) e = no_source known call e
-
-used_shown : (scope : Scope) (leaf : Leaf) (name : Name) → IsShownLeaf scope leaf → name_used leaf ≡ Some name → IsTrue (is_shown name scope)
-used_shown scope (with_argument op (Named other)) name h e = let same : other ≡ name = cc in subst (λ n. IsTrue (is_shown n scope)) same h
-used_shown scope (with_argument op _) name h e = cc
-used_shown scope (stack_pop named) name h e = cc
-used_shown scope (queue_take named) name h e = cc
-used_shown scope (bound given call) name h e = used_shown scope call name h e
+-- no let stands at the front of a block
+none_seen : (kind : BlockKind) (blocks : List OpenBlock) (before : Items) → lets_seen blocks before ≡ lets_seen (record { before = before; kind = kind } ∷ blocks) nothing
+none_seen seq_block blocks before = refl
+none_seen par_block blocks before = refl
+none_seen (for_loop n) blocks before = refl
+none_seen (pfor_loop n) blocks before = refl
 
 -- the words before the argument
 cut_at : (all front rest : List Word) (n : ℕ) → n ≡ length front → front ++ rest ≡ all → take n all ≡ front
@@ -156,7 +124,7 @@ module _ (words : List Word) (all : List PlacedLeaf) where
       (ap (λ ws. opening_words blocks ++ (items_words before ++ (ws ++ rest))) (sym b.is) ∙ front.stands) in
       record {
         number = r.number;
-        is = used_source known leaf name e ∙ r.is;
+        is = ap (option_and_then (leaf_known known)) e ∙ r.is;
         from = r.from;
         stands = r.stands;
         means = subst (λ ws. MeansLet ws name (record { leaf = leaf; before = at; copies = copies }) r.from) (sym here) (record {
@@ -164,7 +132,7 @@ module _ (words : List Word) (all : List PlacedLeaf) where
           binds = r.binds;
           seen = seen.0;
           stands = seen.1;
-          last = λ other. r.last (length other.front) (visible_is_seen blocks before b.given b.op name front.blocks_fit front.items_fit other);
+          last = λ other. r.last (length other.front) (visible_is_seen blocks before b.given b.op name front.blocks_fit front.items_fit b.fits other);
           inner = r.inner;
           same_copies = r.same;
         });
@@ -173,7 +141,7 @@ module _ (words : List Word) (all : List PlacedLeaf) where
   good_by : (blocks : List OpenBlock) (before : Items) (at : ℕ) (copies : List ℕ) (leaf : Leaf) (rest : List Word) (known : List Known) (used : Option Name) → IsLeaf true leaf
       → IsFront words blocks before at (leaf_words leaf ++ rest) → EachWith (IsKnownAt all copies) known (lets_seen blocks before) → IsShownLeaf (scope_at blocks before) leaf
       → name_used leaf ≡ used → IsSourceOf words all (source_of known leaf) (record { leaf = leaf; before = at; copies = copies }) used
-  good_by blocks before at copies leaf rest known None is front h shown e = no_source known leaf e
+  good_by blocks before at copies leaf rest known None is front h shown e = ap (option_and_then (leaf_known known)) e
   good_by blocks before at copies leaf rest known (Some name) is front h shown e = used_good blocks before at copies leaf rest known name is front h shown e
 
   walk : (items : Items) (series : Bool) (known : List Known) (first : ℕ) (copies : List ℕ) (blocks : List OpenBlock) (before : Items) (at : ℕ) (tail : List Word)
@@ -194,78 +162,30 @@ module _ (words : List Word) (all : List PlacedLeaf) where
             (leaf_known_at all leaf at first copies (part_head first here leaves all part)) h)
             shown.1 (part_tail first here leaves all part),
       )
-  walk (block_then seq_block body more) series known first copies blocks before at tail is fits front h shown part =
-      let item = block_then seq_block body nothing in
-      let inside = at + length (kind_words seq_block ++ Open ∷ []) in
-      let next = at + length (items_words (block_then seq_block body nothing)) in
-      let behind = first + 1 * count body in
-      let leaves = placed_in inside copies body in
-      let rest = placed_in next copies more in
-      let part_body = part_left first leaves rest all part in
-      let known_then = known_next series (known_behind first body) known in
-      each_both IsGood (sources_in true known first body) (sources_in series known_then behind more) leaves rest
-      (walk body true known first copies (record { before = before; kind = seq_block } ∷ blocks) nothing inside (Close ∷ (items_words more ++ tail)) refl fits.0
-      (into_block words blocks before at seq_block body more tail fits front) h shown.0 part_body)
-      (walk more series known_then behind copies blocks (before then item) next tail is fits.1 (past_block words blocks before at seq_block body more tail fits front)
-      (step_known (IsKnownAt all copies) blocks before item at series (known_behind first body) known is front.long (behind_known_at all body inside first copies part_body) h)
-      shown.1 (part_right first behind leaves rest all (omega (arith, placed_count body inside copies)) part))
-  walk (block_then par_block body more) series known first copies blocks before at tail is fits front h shown part =
-      let item = block_then par_block body nothing in
-      let inside = at + length (kind_words par_block ++ Open ∷ []) in
-      let next = at + length (items_words (block_then par_block body nothing)) in
-      let behind = first + 1 * count body in
-      let leaves = placed_in inside copies body in
-      let rest = placed_in next copies more in
-      let part_body = part_left first leaves rest all part in
-      let known_then = known_next series (known_behind first body) known in
-      each_both IsGood (sources_in false known first body) (sources_in series known_then behind more) leaves rest
-      (walk body false known first copies (record { before = before; kind = par_block } ∷ blocks) nothing inside (Close ∷ (items_words more ++ tail)) refl fits.0
-      (into_block words blocks before at par_block body more tail fits front) h shown.0 part_body)
-      (walk more series known_then behind copies blocks (before then item) next tail is fits.1 (past_block words blocks before at par_block body more tail fits front)
-      (step_known (IsKnownAt all copies) blocks before item at series (known_behind first body) known is front.long (behind_known_at all body inside first copies part_body) h)
-      shown.1 (part_right first behind leaves rest all (omega (arith, placed_count body inside copies)) part))
-  walk (block_then (for_loop n) body more) series known first copies blocks before at tail is fits front h shown part =
-      let item = block_then (for_loop n) body nothing in
-      let inside = at + length (kind_words (for_loop n) ++ Open ∷ []) in
-      let next = at + length (items_words (block_then (for_loop n) body nothing)) in
+  walk (block_then kind body more) series known first copies blocks before at tail is fits front h shown part =
+      let item = block_then kind body nothing in
+      let inside = at + length (kind_words kind ++ Open ∷ []) in
+      let next = at + length (items_words (block_then kind body nothing)) in
       let m = count body in
-      let behind = first + word_number n * m in
-      let f : ℕ → List (Option ℕ) = λ k. sources_in true known (first + k * m) body in
-      let g : ℕ → List PlacedLeaf = λ k. placed_in inside (copies ++ k ∷ []) body in
-      let long : (k : ℕ) → length (g k) ≡ m = λ k. placed_count body inside (copies ++ k ∷ []) in
-      let leaves = each_copy (word_number n) g in
+      let behind = first + copies_of kind * m in
+      let inner = not (is_par kind) in
+      let new = if is_loop kind then [] else known_behind first body in
+      let f : ℕ → List (Option ℕ) = λ from. sources_in inner known from body in
+      let g : ℕ → List PlacedLeaf = λ k. placed_in inside (with_copy kind copies k) body in
+      let long : (k : ℕ) → length (g k) ≡ m = λ k. placed_count body inside (with_copy kind copies k) in
       let rest = placed_in next copies more in
-      each_both IsGood (each_copy (word_number n) f) (sources_in series known behind more) leaves rest
-      (each_copies IsGood (word_number n) m first f g all long
-      (λ k part_k. walk body true known (first + k * m) (copies ++ k ∷ []) (record { before = before; kind = for_loop n } ∷ blocks) nothing inside (Close ∷ (items_words more ++ tail)) refl fits.0
-      (into_block words blocks before at (for_loop n) body more tail fits front)
-      (each_from (IsKnownAt all copies) (IsKnownAt all (copies ++ k ∷ [])) (deeper all copies k) known (lets_seen blocks before) h) shown.0 part_k)
-      (part_left first leaves rest all part))
-      (walk more series known behind copies blocks (before then item) next tail is fits.1 (past_block words blocks before at (for_loop n) body more tail fits front)
-      (subst (λ known. EachWith (IsKnownAt all copies) known (lets_seen blocks (before then item))) (nothing_new series known)
-      (step_known (IsKnownAt all copies) blocks before item at series [] known is front.long tt h))
-      shown.1 (part_right first behind leaves rest all (omega (arith, each_length (word_number n) m g long)) part))
-  walk (block_then (pfor_loop n) body more) series known first copies blocks before at tail is fits front h shown part =
-      let item = block_then (pfor_loop n) body nothing in
-      let inside = at + length (kind_words (pfor_loop n) ++ Open ∷ []) in
-      let next = at + length (items_words (block_then (pfor_loop n) body nothing)) in
-      let m = count body in
-      let behind = first + word_number n * m in
-      let f : ℕ → List (Option ℕ) = λ k. sources_in true known (first + k * m) body in
-      let g : ℕ → List PlacedLeaf = λ k. placed_in inside (copies ++ k ∷ []) body in
-      let long : (k : ℕ) → length (g k) ≡ m = λ k. placed_count body inside (copies ++ k ∷ []) in
-      let leaves = each_copy (word_number n) g in
-      let rest = placed_in next copies more in
-      each_both IsGood (each_copy (word_number n) f) (sources_in series known behind more) leaves rest
-      (each_copies IsGood (word_number n) m first f g all long
-      (λ k part_k. walk body true known (first + k * m) (copies ++ k ∷ []) (record { before = before; kind = pfor_loop n } ∷ blocks) nothing inside (Close ∷ (items_words more ++ tail)) refl fits.0
-      (into_block words blocks before at (pfor_loop n) body more tail fits front)
-      (each_from (IsKnownAt all copies) (IsKnownAt all (copies ++ k ∷ [])) (deeper all copies k) known (lets_seen blocks before) h) shown.0 part_k)
-      (part_left first leaves rest all part))
-      (walk more series known behind copies blocks (before then item) next tail is fits.1 (past_block words blocks before at (pfor_loop n) body more tail fits front)
-      (subst (λ known. EachWith (IsKnownAt all copies) known (lets_seen blocks (before then item))) (nothing_new series known)
-      (step_known (IsKnownAt all copies) blocks before item at series [] known is front.long tt h))
-      shown.1 (part_right first behind leaves rest all (omega (arith, each_length (word_number n) m g long)) part))
+      let own = part_left first (in_block kind 0 g) rest all part in
+      each_both IsGood (in_block_from kind first m f) (sources_in series (known_next series new known) behind more) (in_block kind 0 g) rest
+      (each_in_block IsGood kind m first f g all long
+      (λ from k part_k. walk body inner known from (with_copy kind copies k) (record { before = before; kind = kind } ∷ blocks) nothing inside (Close ∷ (items_words more ++ tail)) refl fits.0
+      (into_block words blocks before at kind body more tail fits front)
+      (subst (EachWith (IsKnownAt all (with_copy kind copies k)) known) (none_seen kind blocks before)
+      (each_from (IsKnownAt all copies) (IsKnownAt all (with_copy kind copies k)) (deeper kind all copies k) known (lets_seen blocks before) h)) shown.0 part_k)
+      own)
+      (walk more series (known_next series new known) behind copies blocks (before then item) next tail is fits.1 (past_block words blocks before at kind body more tail fits front)
+      (step_known (IsKnownAt all copies) blocks before item at series new known is front.long
+      (block_known_at all kind body inside first copies (λ around part. behind_known_at all body inside first around part) own) h)
+      shown.1 (part_right first behind (in_block kind 0 g) rest all (omega (arith, block_length kind 0 m g long)) part))
 
 module _ (words : List Word) (items : Items) (writes : items_words items ≡ words) (fits : AreFlat items) (shown : AreShown [] nothing items) where
   pub each_is_good : EachWith (λ source at. IsSourceOf words (placed_leaves items) source at (name_used at.leaf)) (sources_in true [] 0 items) (placed_leaves items)

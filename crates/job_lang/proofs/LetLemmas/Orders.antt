@@ -4,7 +4,7 @@ use Rattle.std.specs.Prelude.{if◌then◌else◌}
 use Rattle.job_names.specs.declared.name.Name.{Name}
 use Rattle.job_names.specs.declared.scopes.Let.{Let}
 use Rattle.job_syntax.specs.declared.lexer.word.Word.TheVariants.{Open}
-use Rattle.job_syntax.specs.Grammar.{Leaf, with_argument, stack_pop, queue_take, bound, BlockKind, Items, nothing, leaf_then, block_then, leaf_words, kind_words, items_words, is_loop, is_par}
+use Rattle.job_syntax.specs.Grammar.{Leaf, work, call, bound, BlockKind, Items, nothing, leaf_then, block_then, leaf_words, kind_words, items_words, is_loop, is_par}
 use Rattle.job_syntax.specs.Code.Shown.{OpenBlock}
 use Rattle.job_syntax.specs.Code.Reached.{opening_words}
 use Rattle.job_syntax.proofs.ParserLemmas.LetsSeen.{HasLet, lets_of, lets_behind, lets_seen, block_length}
@@ -71,10 +71,9 @@ spans_kept true low high lets p = spans_none low high
 spans_kept false low high lets p = p
 
 leaf_spans : (at : ℕ) (leaf : Leaf) → Spans at (at + length (leaf_words leaf)) (lets_of at leaf)
-leaf_spans at (with_argument op argument) = spans_none at (at + length (leaf_words (with_argument op argument)))
-leaf_spans at (stack_pop named) = spans_none at (at + length (leaf_words (stack_pop named)))
-leaf_spans at (queue_take named) = spans_none at (at + length (leaf_words (queue_take named)))
-leaf_spans at (bound name call) = record { from = (omega arith, tt); below = (omega arith, tt); sorted = (tt, tt) }
+leaf_spans at (work argument) = spans_none at (at + length (leaf_words (work argument)))
+leaf_spans at (call verb object argument) = spans_none at (at + length (leaf_words (call verb object argument)))
+leaf_spans at (bound name given) = record { from = (omega arith, tt); below = (omega arith, tt); sorted = (tt, tt) }
 
 -- the words of a block
 inside_length : (kind : BlockKind) (body : Items) → length (items_words (block_then kind body nothing)) ≡ length (kind_words kind ++ Open ∷ []) + (length (items_words body) + 1)

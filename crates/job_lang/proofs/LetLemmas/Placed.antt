@@ -3,12 +3,13 @@ use Rattle.std.proofs.Common.{ℕ, zero, suc, ◌≡◌, ◌+◌, List, [], ◌�
 use Rattle.std.proofs.lemmas.List.{map-append}
 use Rattle.job_names.specs.declared.name.Name.{Name}
 use Rattle.job_syntax.specs.declared.lexer.word.Word.{Word}
-use Rattle.job_syntax.specs.declared.lexer.word.Word.TheVariants.{Open, Named}
+use Rattle.job_syntax.specs.declared.lexer.word.Word.TheVariants.{Open}
 use Rattle.job_syntax.specs.Blocks.{word_number}
-use Rattle.job_syntax.specs.Grammar.{Leaf, with_argument, stack_pop, queue_take, bound, seq_block, par_block, for_loop, pfor_loop, Items, nothing, leaf_then, block_then, leaf_words, kind_words, items_words}
-use Rattle.job_lang.specs.Meaning.{act_of, each_copy, acts_in, each_leaf}
+use Rattle.job_syntax.specs.Grammar.{Leaf, BlockKind, seq_block, par_block, for_loop, pfor_loop, Items, nothing, leaf_then, block_then, leaf_words, kind_words, items_words}
+use Rattle.job_syntax.specs.Arguments.{name_used}
+use Rattle.job_lang.specs.Meaning.{act_of, each_copy, in_block, acts_in, each_leaf}
 use Rattle.job_lang.specs.Uses.{uses_name}
-use Rattle.job_lang.specs.Places.{PlacedLeaf, placed_in, placed_leaves, innermost, act_at, name_used, IsSourceOf}
+use Rattle.job_lang.specs.Places.{PlacedLeaf, placed_in, placed_leaves, innermost, act_at, with_copy, IsSourceOf}
 use Rattle.job_lang.proofs.LetLemmas.Lists.{EachWith}
 
 both_by : {X Y : Type 0} (rule : Y → X) (xs xs' : List X) (ys ys' : List Y) → xs ≡ map rule ys → xs' ≡ map rule ys' → xs ++ xs' ≡ map rule (ys ++ ys')
@@ -22,66 +23,47 @@ last_copy : (copy : ℕ) (copies : List ℕ) (k : ℕ) → innermost copy (copie
 last_copy copy [] k = refl
 last_copy copy (inner ∷ copies) k = last_copy inner copies k
 
+-- the acts of a block, where this is so of its body
+block_acts : (kind : BlockKind) (copy : ℕ) (copies : List ℕ) (inside : ℕ) (body : Items) → innermost 0 copies ≡ copy
+    → ((copy : ℕ) (around : List ℕ) → innermost 0 around ≡ copy → acts_in copy body ≡ map act_at (placed_in inside around body))
+    → in_block kind copy (λ k. acts_in k body) ≡ map act_at (in_block kind 0 (λ k. placed_in inside (with_copy kind copies k) body))
+block_acts seq_block copy copies inside body e one = one copy copies e
+block_acts par_block copy copies inside body e one = one copy copies e
+block_acts (for_loop n) copy copies inside body e one =
+    copies_by act_at (word_number n) (λ k. acts_in k body) (λ k. placed_in inside (copies ++ k ∷ []) body) (λ k. one k (copies ++ k ∷ []) (last_copy 0 copies k))
+block_acts (pfor_loop n) copy copies inside body e one =
+    copies_by act_at (word_number n) (λ k. acts_in k body) (λ k. placed_in inside (copies ++ k ∷ []) body) (λ k. one k (copies ++ k ∷ []) (last_copy 0 copies k))
+
 acts_by : (items : Items) (at copy : ℕ) (copies : List ℕ) → innermost 0 copies ≡ copy → acts_in copy items ≡ map act_at (placed_in at copies items)
 acts_by nothing at copy copies e = refl
 acts_by (leaf_then leaf more) at copy copies e =
     both_by act_at (act_of copy leaf ∷ []) (acts_in copy more) (record { leaf = leaf; before = at; copies = copies } ∷ []) (placed_in (at + length (leaf_words leaf)) copies more)
     (ap (λ k. act_of k leaf ∷ []) (sym e)) (acts_by more (at + length (leaf_words leaf)) copy copies e)
-acts_by (block_then seq_block body more) at copy copies e =
-    let inside = at + length (kind_words seq_block ++ Open ∷ []) in
-    let next = at + length (items_words (block_then seq_block body nothing)) in
-    both_by act_at (acts_in copy body) (acts_in copy more) (placed_in inside copies body) (placed_in next copies more) (acts_by body inside copy copies e) (acts_by more next copy copies e)
-acts_by (block_then par_block body more) at copy copies e =
-    let inside = at + length (kind_words par_block ++ Open ∷ []) in
-    let next = at + length (items_words (block_then par_block body nothing)) in
-    both_by act_at (acts_in copy body) (acts_in copy more) (placed_in inside copies body) (placed_in next copies more) (acts_by body inside copy copies e) (acts_by more next copy copies e)
-acts_by (block_then (for_loop n) body more) at copy copies e =
-    let inside = at + length (kind_words (for_loop n) ++ Open ∷ []) in
-    let next = at + length (items_words (block_then (for_loop n) body nothing)) in
-    let leaves : ℕ → List PlacedLeaf = λ k. placed_in inside (copies ++ k ∷ []) body in
-    both_by act_at (each_copy (word_number n) (λ k. acts_in k body)) (acts_in copy more) (each_copy (word_number n) leaves) (placed_in next copies more)
-    (copies_by act_at (word_number n) (λ k. acts_in k body) leaves (λ k. acts_by body inside k (copies ++ k ∷ []) (last_copy 0 copies k))) (acts_by more next copy copies e)
-acts_by (block_then (pfor_loop n) body more) at copy copies e =
-    let inside = at + length (kind_words (pfor_loop n) ++ Open ∷ []) in
-    let next = at + length (items_words (block_then (pfor_loop n) body nothing)) in
-    let leaves : ℕ → List PlacedLeaf = λ k. placed_in inside (copies ++ k ∷ []) body in
-    both_by act_at (each_copy (word_number n) (λ k. acts_in k body)) (acts_in copy more) (each_copy (word_number n) leaves) (placed_in next copies more)
-    (copies_by act_at (word_number n) (λ k. acts_in k body) leaves (λ k. acts_by body inside k (copies ++ k ∷ []) (last_copy 0 copies k))) (acts_by more next copy copies e)
+acts_by (block_then kind body more) at copy copies e =
+    let inside = at + length (kind_words kind ++ Open ∷ []) in
+    let next = at + length (items_words (block_then kind body nothing)) in
+    both_by act_at (in_block kind copy (λ k. acts_in k body)) (acts_in copy more) (in_block kind 0 (λ k. placed_in inside (with_copy kind copies k) body)) (placed_in next copies more)
+    (block_acts kind copy copies inside body e (λ copy around e. acts_by body inside copy around e)) (acts_by more next copy copies e)
 
 -- the acts of the job are those of the leaves with places
 pub acts_placed : (items : Items) → acts_in 0 items ≡ map act_at (placed_leaves items)
 acts_placed items = acts_by items 0 0 [] refl
 
+block_by : {X Y : Type 0} (rule : Y → X) (kind : BlockKind) (f : ℕ → List X) (g : ℕ → List Y) → ((k : ℕ) → f k ≡ map rule (g k)) → in_block kind 0 f ≡ map rule (in_block kind 0 g)
+block_by rule seq_block f g e = e 0
+block_by rule par_block f g e = e 0
+block_by rule (for_loop n) f g e = copies_by rule (word_number n) f g e
+block_by rule (pfor_loop n) f g e = copies_by rule (word_number n) f g e
+
 rule_by : {X : Type 0} (rule : Leaf → X) (items : Items) (at : ℕ) (copies : List ℕ) → each_leaf rule items ≡ map (λ (p : PlacedLeaf). rule p.leaf) (placed_in at copies items)
 rule_by rule nothing at copies = refl
 rule_by rule (leaf_then leaf more) at copies = ap (λ rest. rule leaf ∷ rest) (rule_by rule more (at + length (leaf_words leaf)) copies)
-rule_by rule (block_then seq_block body more) at copies =
-    let inside = at + length (kind_words seq_block ++ Open ∷ []) in
-    let next = at + length (items_words (block_then seq_block body nothing)) in
-    both_by (λ (p : PlacedLeaf). rule p.leaf) (each_leaf rule body) (each_leaf rule more) (placed_in inside copies body) (placed_in next copies more) (rule_by rule body inside copies) (rule_by rule more next copies)
-rule_by rule (block_then par_block body more) at copies =
-    let inside = at + length (kind_words par_block ++ Open ∷ []) in
-    let next = at + length (items_words (block_then par_block body nothing)) in
-    both_by (λ (p : PlacedLeaf). rule p.leaf) (each_leaf rule body) (each_leaf rule more) (placed_in inside copies body) (placed_in next copies more) (rule_by rule body inside copies) (rule_by rule more next copies)
-rule_by rule (block_then (for_loop n) body more) at copies =
-    let inside = at + length (kind_words (for_loop n) ++ Open ∷ []) in
-    let next = at + length (items_words (block_then (for_loop n) body nothing)) in
-    let leaves : ℕ → List PlacedLeaf = λ k. placed_in inside (copies ++ k ∷ []) body in
-    both_by (λ (p : PlacedLeaf). rule p.leaf) (each_copy (word_number n) (λ k. each_leaf rule body)) (each_leaf rule more) (each_copy (word_number n) leaves) (placed_in next copies more)
-    (copies_by (λ (p : PlacedLeaf). rule p.leaf) (word_number n) (λ k. each_leaf rule body) leaves (λ k. rule_by rule body inside (copies ++ k ∷ []))) (rule_by rule more next copies)
-rule_by rule (block_then (pfor_loop n) body more) at copies =
-    let inside = at + length (kind_words (pfor_loop n) ++ Open ∷ []) in
-    let next = at + length (items_words (block_then (pfor_loop n) body nothing)) in
-    let leaves : ℕ → List PlacedLeaf = λ k. placed_in inside (copies ++ k ∷ []) body in
-    both_by (λ (p : PlacedLeaf). rule p.leaf) (each_copy (word_number n) (λ k. each_leaf rule body)) (each_leaf rule more) (each_copy (word_number n) leaves) (placed_in next copies more)
-    (copies_by (λ (p : PlacedLeaf). rule p.leaf) (word_number n) (λ k. each_leaf rule body) leaves (λ k. rule_by rule body inside (copies ++ k ∷ []))) (rule_by rule more next copies)
-
-some_used : (leaf : Leaf) → is_some (name_used leaf) ≡ uses_name leaf
-some_used (with_argument op (Named name)) = refl
-some_used (with_argument op _) = refl
-some_used (stack_pop named) = refl
-some_used (queue_take named) = refl
-some_used (bound name call) = some_used call
+rule_by rule (block_then kind body more) at copies =
+    let inside = at + length (kind_words kind ++ Open ∷ []) in
+    let next = at + length (items_words (block_then kind body nothing)) in
+    let copy : ℕ → List PlacedLeaf = λ k. placed_in inside (with_copy kind copies k) body in
+    both_by (λ (p : PlacedLeaf). rule p.leaf) (in_block kind 0 (λ k. each_leaf rule body)) (each_leaf rule more) (in_block kind 0 copy) (placed_in next copies more)
+    (block_by (λ (p : PlacedLeaf). rule p.leaf) kind (λ k. each_leaf rule body) copy (λ k. rule_by rule body inside (with_copy kind copies k))) (rule_by rule more next copies)
 
 some_source : (words : List Word) (all : List PlacedLeaf) (source : Option ℕ) (at : PlacedLeaf) (used : Option Name) → IsSourceOf words all source at used → is_some source ≡ is_some used
 some_source words all source at None h = ap is_some h
@@ -93,7 +75,7 @@ used_by words all [] [] h = refl
 used_by words all [] (at ∷ leaves) h = elim h [ ]
 used_by words all (source ∷ sources) [] h = elim h [ ]
 used_by words all (source ∷ sources) (at ∷ leaves) h =
-    ap (λ b. b ∷ map is_some sources) (some_source words all source at (name_used at.leaf) h.0 ∙ some_used at.leaf)
+    ap (λ b. b ∷ map is_some sources) (some_source words all source at (name_used at.leaf) h.0)
     ∙ ap (λ rest. uses_name at.leaf ∷ rest) (used_by words all sources leaves h.1)
 
 -- the leaves that have a source are those that use a name

@@ -1,5 +1,5 @@
 -- Where no argument is out of range in the last copy, the numbers of all copies fit 32 bits.
-use Rattle.std.proofs.Common.{◌≡◌, ℕ, suc, ◌+◌, ◌-◌, ◌*◌, ◌^◌, ◌<◌, ◌≤◌, List, [], ◌∷◌, ◌++◌, length, filter, Bool, true, false, Some, None, refl, ap, ◌∙◌, arith, length-append}
+use Rattle.std.proofs.Common.{◌≡◌, ℕ, suc, ◌+◌, ◌-◌, ◌*◌, ◌^◌, ◌<◌, ◌≤◌, List, [], ◌∷◌, ◌++◌, length, filter, Bool, true, false, Option, Some, None, refl, ap, ◌∙◌, arith, subst, length-append}
 use Rattle.std.specs.Prelude.{◌&&◌, nat_le, if◌then◌else◌, IsTrue}
 use Rattle.std.proofs.Math.Nat.{mul-le-mul_left}
 use Rattle.std.proofs.lemmas.Bool.{le-leb, leb-false}
@@ -7,12 +7,15 @@ use Rattle.std.proofs.lemmas.List.Elements.{filter-append}
 use Rattle.job_syntax.specs.declared.lexer.word.Word.{Word}
 use Rattle.job_syntax.specs.declared.lexer.word.Word.TheVariants.{Open, Close, Copies}
 use Rattle.job_syntax.specs.declared.lexer.word.WordOnLine.{WordOnLine}
-use Rattle.job_syntax.specs.Grammar.{Items, nothing, leaf_then, block_then, seq_block, par_block, for_loop, pfor_loop, Leaf, with_argument, stack_pop, queue_take, bound, work, counter_add, stack_push, tree_insert, tree_remove, tree_find, tree_next, queue_insert, unary_op_words, leaf_words, kind_words, items_words, is_argument, is_call_argument, IsCall, IsLeaf, AreItems, Derives}
+use Rattle.job_syntax.specs.Grammar.{Items, nothing, leaf_then, block_then, BlockKind, seq_block, par_block, for_loop, pfor_loop, Leaf, work, call, bound, leaf_words, kind_words, items_words, is_loop, is_argument, is_call_argument, FitsVerb, IsLeaf, AreItems, Derives}
 use Rattle.job_syntax.specs.Faults.{words_of}
 use Rattle.job_syntax.specs.Blocks.{word_number}
-use Rattle.job_lang.specs.Limits.{copies_inside, is_out_of_range, leaf_range_flags, range_flags, depends_on_copy, first_line, argument_line}
-use Rattle.job_lang.specs.Code.Ranges.{FitsArgument, FitsLeaf, Fits}
+use Rattle.job_syntax.specs.Arguments.{leaf_argument}
+use Rattle.job_lang.specs.Limits.{copies_inside, is_out_of_range, argument_range_flags, leaf_range_flags, range_flags, depends_on_copy, first_line, argument_line}
+use Rattle.job_lang.specs.Code.Ranges.{FitsArgument, FitsLeaf, InEach, Fits}
 use Rattle.job_lang.specs.Code.Searches.{dependents}
+use Rattle.seq_objects.specs.Verbs.{takes_argument}
+use Rattle.job_syntax.proofs.ParserLemmas.Calls.{call_is_leaf}
 
 -- there are as many words that depend on the copy as arguments that do
 
@@ -27,10 +30,15 @@ dependents_length (token ∷ tokens) = count_kept (depends_on_copy token.word) t
 filter_length : (a b : List Word) → length (filter depends_on_copy (a ++ b)) ≡ length (filter depends_on_copy a) + length (filter depends_on_copy b)
 filter_length a b = ap length (filter-append depends_on_copy a b) ∙ length-append (filter depends_on_copy a) (filter depends_on_copy b)
 
+word_few : (c : ℕ) (argument : Word) → length (argument_range_flags c (Some argument)) ≤ length (filter depends_on_copy (argument ∷ []))
+word_few c (Copies (Some by)) = omega arith
+word_few c _ = omega arith
+
 leaf_few : (c : ℕ) (leaf : Leaf) → length (leaf_range_flags c leaf) ≤ length (filter depends_on_copy (leaf_words leaf))
-leaf_few c (with_argument op (Copies (Some by))) = let h = filter_length (unary_op_words op) (Copies (Some by) ∷ []) in omega (arith, h)
-leaf_few c (bound name call) = leaf_few c call
-leaf_few c _ = omega arith
+leaf_few c (work argument) = word_few c argument
+leaf_few c (call verb object (Some argument)) = word_few c argument
+leaf_few c (call verb object None) = omega arith
+leaf_few c (bound name given) = leaf_few c given
 
 range_flags_few : (items : Items) (c : ℕ) → length (range_flags c items) ≤ length (filter depends_on_copy (items_words items))
 range_flags_few nothing c = omega arith
@@ -72,72 +80,57 @@ number_fits by c k below small =
     let less : by.0 * k ≤ by.0 * (c - 1) = mul-le-mul_left by.0 (omega (arith, below)) in
     omega (arith, last, less)
 
-leaf_fits : (leaf : Leaf) (c k : ℕ) → k < c → AreAllFalse (leaf_range_flags c leaf) → FitsLeaf k leaf
-leaf_fits (with_argument op (Copies (Some by))) c k below small = number_fits by c k below small.0
-leaf_fits (with_argument op _) c k below small = tt
-leaf_fits (stack_pop object) c k below small = tt
-leaf_fits (queue_take object) c k below small = tt
-leaf_fits (bound name call) c k below small = leaf_fits call c k below small
+argument_fits_inside : (argument : Option Word) (c k : ℕ) → k < c → AreAllFalse (argument_range_flags c argument) → FitsArgument k argument
+argument_fits_inside (Some (Copies (Some by))) c k below small = number_fits by c k below small.0
+argument_fits_inside _ c k below small = tt
+
+-- the arguments of a block fit, where those of its body do: inside a loop, and else in the copy of the block
+block_fits : (kind : BlockKind) (c k : ℕ) (body : Items) → ((d i : ℕ) → i < d → AreAllFalse (range_flags d body) → Fits i body) → (is_loop kind ≡ false → AreAllFalse (range_flags c body) → Fits k body)
+    → AreAllFalse (range_flags (copies_inside c kind) body) → InEach kind k (λ i. Fits i body)
+block_fits seq_block c k body inside here small = here refl small
+block_fits par_block c k body inside here small = here refl small
+block_fits (for_loop n) c k body inside here small = λ i within. inside (word_number n) i within small
+block_fits (pfor_loop n) c k body inside here small = λ i within. inside (word_number n) i within small
 
 fits_inside : (items : Items) (c k : ℕ) → k < c → AreAllFalse (range_flags c items) → Fits k items
 fits_inside nothing c k below small = tt
 fits_inside (leaf_then leaf more) c k below small =
-    let parts = parts_false (leaf_range_flags c leaf) (range_flags c more) small in (leaf_fits leaf c k below parts.0, fits_inside more c k below parts.1)
-fits_inside (block_then seq_block body more) c k below small =
-    let parts = parts_false (range_flags c body) (range_flags c more) small in (fits_inside body c k below parts.0, fits_inside more c k below parts.1)
-fits_inside (block_then par_block body more) c k below small =
-    let parts = parts_false (range_flags c body) (range_flags c more) small in (fits_inside body c k below parts.0, fits_inside more c k below parts.1)
-fits_inside (block_then (for_loop n) body more) c k below small =
-    let parts = parts_false (range_flags (word_number n) body) (range_flags c more) small in ((λ i within. fits_inside body (word_number n) i within parts.0), fits_inside more c k below parts.1)
-fits_inside (block_then (pfor_loop n) body more) c k below small =
-    let parts = parts_false (range_flags (word_number n) body) (range_flags c more) small in ((λ i within. fits_inside body (word_number n) i within parts.0), fits_inside more c k below parts.1)
+    let parts = parts_false (leaf_range_flags c leaf) (range_flags c more) small in
+    (argument_fits_inside (leaf_argument leaf) c k below parts.0, fits_inside more c k below parts.1)
+fits_inside (block_then kind body more) c k below small =
+    let parts = parts_false (range_flags (copies_inside c kind) body) (range_flags c more) small in (
+      block_fits kind c k body (λ d i within flags. fits_inside body d i within flags) (λ single flags. fits_inside body c k below flags) parts.0,
+      fits_inside more c k below parts.1,
+    )
 
-argument_fits : (argument : Word) → IsTrue (is_argument false argument) → FitsArgument 0 argument
+argument_fits : (argument : Word) → IsTrue (is_argument false argument) → FitsArgument 0 (Some argument)
 argument_fits (Copies by) fits = absurd (cc fits)
 argument_fits _ fits = tt
 
-value_fits : (argument : Word) → IsTrue (is_call_argument false argument) → FitsArgument 0 argument
+value_fits : (argument : Word) → IsTrue (is_call_argument false argument) → FitsArgument 0 (Some argument)
 value_fits (Copies by) fits = absurd (cc fits)
 value_fits _ fits = tt
 
-call_fits_outside : (call : Leaf) → IsCall false call → FitsLeaf 0 call
-call_fits_outside (with_argument work argument) fits = elim fits [ ]
-call_fits_outside (with_argument (counter_add object) argument) fits = value_fits argument fits
-call_fits_outside (with_argument (stack_push object) argument) fits = value_fits argument fits
-call_fits_outside (with_argument (tree_insert object) argument) fits = value_fits argument fits
-call_fits_outside (with_argument (tree_remove object) argument) fits = value_fits argument fits
-call_fits_outside (with_argument (tree_find object) argument) fits = value_fits argument fits
-call_fits_outside (with_argument (tree_next object) argument) fits = value_fits argument fits
-call_fits_outside (with_argument (queue_insert object) argument) fits = value_fits argument fits
-call_fits_outside (stack_pop object) fits = tt
-call_fits_outside (queue_take object) fits = tt
-call_fits_outside (bound name call) fits = elim fits [ ]
+call_fits : (takes : Bool) (argument : Option Word) → FitsVerb false takes argument → FitsArgument 0 argument
+call_fits true (Some argument) fits = value_fits argument fits
+call_fits false (Some argument) fits = elim fits [ ]
+call_fits takes None fits = tt
 
 leaf_fits_outside : (leaf : Leaf) → IsLeaf false leaf → FitsLeaf 0 leaf
-leaf_fits_outside (with_argument work argument) fits = argument_fits argument fits
-leaf_fits_outside (with_argument (counter_add object) argument) fits = value_fits argument fits
-leaf_fits_outside (with_argument (stack_push object) argument) fits = value_fits argument fits
-leaf_fits_outside (with_argument (tree_insert object) argument) fits = value_fits argument fits
-leaf_fits_outside (with_argument (tree_remove object) argument) fits = value_fits argument fits
-leaf_fits_outside (with_argument (tree_find object) argument) fits = value_fits argument fits
-leaf_fits_outside (with_argument (tree_next object) argument) fits = value_fits argument fits
-leaf_fits_outside (with_argument (queue_insert object) argument) fits = value_fits argument fits
-leaf_fits_outside (stack_pop object) fits = tt
-leaf_fits_outside (queue_take object) fits = tt
-leaf_fits_outside (bound name call) fits = call_fits_outside call fits
+leaf_fits_outside (work argument) fits = argument_fits argument fits
+leaf_fits_outside (call verb object argument) fits = call_fits (takes_argument verb) argument fits
+leaf_fits_outside (bound name given) fits = leaf_fits_outside given (call_is_leaf false given fits)
 
 fits_outside : (items : Items) → AreItems false items → AreAllFalse (range_flags 0 items) → Fits 0 items
 fits_outside nothing fits small = tt
 fits_outside (leaf_then leaf more) fits small =
     let parts = parts_false (leaf_range_flags 0 leaf) (range_flags 0 more) small in (leaf_fits_outside leaf fits.0, fits_outside more fits.1 parts.1)
-fits_outside (block_then seq_block body more) fits small =
-    let parts = parts_false (range_flags 0 body) (range_flags 0 more) small in (fits_outside body fits.1 parts.0, fits_outside more fits.2 parts.1)
-fits_outside (block_then par_block body more) fits small =
-    let parts = parts_false (range_flags 0 body) (range_flags 0 more) small in (fits_outside body fits.1 parts.0, fits_outside more fits.2 parts.1)
-fits_outside (block_then (for_loop n) body more) fits small =
-    let parts = parts_false (range_flags (word_number n) body) (range_flags 0 more) small in ((λ i within. fits_inside body (word_number n) i within parts.0), fits_outside more fits.2 parts.1)
-fits_outside (block_then (pfor_loop n) body more) fits small =
-    let parts = parts_false (range_flags (word_number n) body) (range_flags 0 more) small in ((λ i within. fits_inside body (word_number n) i within parts.0), fits_outside more fits.2 parts.1)
+fits_outside (block_then kind body more) fits small =
+    let parts = parts_false (range_flags (copies_inside 0 kind) body) (range_flags 0 more) small in (
+      block_fits kind 0 0 body (λ d i within flags. fits_inside body d i within flags)
+          (λ single flags. fits_outside body (subst (λ looped. AreItems looped body) single fits.1) flags) parts.0,
+      fits_outside more fits.2 parts.1,
+    )
 
 -- where no argument of the text is out of range, all numbers fit
 pub numbers_fit : (words : List WordOnLine) (items : Items) → Derives (words_of words) items → argument_line words items ≡ None → Fits 0 items

@@ -1,15 +1,19 @@
 -- The words of a text: their numbers fit 32 bits, and their names of objects are spelled as names.
 use Rattle.std.proofs.Common.{◌≡◌, ℕ, ◌^◌, List, [], ◌∷◌, ◌++◌, map, drop, Bool, true, false, Option, Some, None, refl}
-use Rattle.std.specs.Prelude.{◌&&◌, nat_lt, codes, if◌then◌else◌}
+use Rattle.std.specs.Prelude.{◌&&◌, nat_lt, codes, if◌then◌else◌, IfSome, option_map, unwrap_or}
+use Rattle.std.specs.Option.{option_or}
 use Rattle.std.specs.List.{AllByRecursion}
 use Rattle.std.specs.Str.{bytes_eq}
 use Rattle.std.proofs.lemmas.Bool.{ltb-true}
 use Rattle.job_names.specs.declared.name.Name.{Name}
 use Rattle.job_names.specs.Names.{is_spelled, name_of}
+use Rattle.seq_objects.specs.declared.kind.Kind.{Kind}
+use Rattle.seq_objects.specs.declared.verb.VerbWord.{VerbWord}
+use Rattle.seq_objects.specs.Verbs.{kind_by_text, word_by_text}
 use Rattle.job_syntax.specs.declared.lexer.word.Word.{Word}
-use Rattle.job_syntax.specs.declared.lexer.word.Word.TheVariants.{Open, Close, Work, Counter, Stack, Tree, Queue, Add, Push, Pop, Insert, Remove, Find, Next, Take, Seq, Par, For, Pfor, Let, Equals, Number, Copies, Named, Other}
+use Rattle.job_syntax.specs.declared.lexer.word.Word.TheVariants.{Open, Close, Work, Object, Verb, Seq, Par, For, Pfor, Let, Equals, Number, Copies, Named, Other}
 use Rattle.job_syntax.specs.Text.{Token}
-use Rattle.job_syntax.specs.Words.{begins_well, digits_from, number_of, copies_word, kind_word, object_word, argument_word, word_of, word_on_line, pair_of, before_first, behind_first}
+use Rattle.job_syntax.specs.Words.{begins_well, digits_from, number_of, copies_word, kind_named, kind_word, object_word, argument_word, own_word, table_word, quoted_word, word_of, word_on_line, pair_of, before_first, behind_first}
 use Rattle.job_syntax.specs.Faults.{words_of}
 use Rattle.job_syntax.specs.Grammar.{Items, block_then, BlockKind, kind_words, items_words}
 use Rattle.job_lang.specs.ActNumbers.{IsSmall}
@@ -24,10 +28,7 @@ NamesWell (Some name) = IsSpelledName name
 -- the number of a plain number word, if it has one, fits 32 bits; the name of an object is spelled as a name
 abbrev pub SaysWell : Word → Type 0
 SaysWell (Number number) = IsSmall number
-SaysWell (Counter object) = NamesWell object
-SaysWell (Stack object) = NamesWell object
-SaysWell (Tree object) = NamesWell object
-SaysWell (Queue object) = NamesWell object
+SaysWell (Object kind object) = NamesWell object
 SaysWell _ = Unit {0}
 
 small_when : (well : Bool) (number : ℕ) → IsSmall (if well && nat_lt number (2 ^ 32) then Some number else None)
@@ -51,15 +52,12 @@ chosen false a b small small' = small'
 good_copies : (text : List ℕ) → IsGoodWord (copies_word text)
 good_copies text = chosen _ (Copies (pair_of (number_of (before_first 43 text)) (number_of (behind_first 43 text)))) Other tt (record { says = tt })
 
-good_kind_word : (text : List ℕ) (name : Name) → IsSpelledName name → IsGoodWord (kind_word text name)
-good_kind_word text name spelled =
-    chosen (bytes_eq text (codes "counter")) (Counter (Some name)) _ spelled
-    (chosen (bytes_eq text (codes "stack")) (Stack (Some name)) _ spelled
-    (chosen (bytes_eq text (codes "tree")) (Tree (Some name)) _ spelled
-    (chosen (bytes_eq text (codes "queue")) (Queue (Some name)) Other spelled (record { says = tt }))))
+good_kind_word : (found : Option Kind) (name : Name) → IsSpelledName name → IsGoodWord (kind_named found name)
+good_kind_word (Some kind) name spelled = record { says = spelled }
+good_kind_word None name spelled = record { says = tt }
 
 named_or_other : (spelled : Bool) (text name : List ℕ) → is_spelled name ≡ spelled → IsGoodWord (if spelled then kind_word text (name_of name) else Other)
-named_or_other true text name is = good_kind_word text (name_of name) (spelled_name name is)
+named_or_other true text name is = good_kind_word (kind_by_text text) (name_of name) (spelled_name name is)
 named_or_other false text name is = record { says = tt }
 
 good_object_word : (text : List ℕ) → IsGoodWord (object_word text)
@@ -70,34 +68,47 @@ good_argument_word text =
     chosen _ (Number (number_of text)) _ (small_number text) (chosen _ (Copies (Some (1, 0))) _ tt
     (chosen _ (copies_word (drop 2 text)) _ (good_copies (drop 2 text)).says (chosen _ (Named (name_of text)) (object_word text) tt (good_object_word text))))
 
-good_word : (text : List ℕ) → IsGoodWord (word_of text)
+-- a word of the language has no number, and no name
+abbrev IsGoodIfFound : Option Word → Type 0
+IsGoodIfFound found = IfSome found SaysWell
+
+choice : (test : Bool) (own : Word) (others : Option Word) → SaysWell own → IsGoodIfFound others → IsGoodIfFound (if test then Some own else others)
+choice true own others says more = says
+choice false own others says more = more
+
+good_own_word : (text : List ℕ) → IsGoodIfFound (own_word text)
+good_own_word text =
+    choice (bytes_eq text (codes "{")) Open _ tt
+    (choice (bytes_eq text (codes "}")) Close _ tt
+    (choice (bytes_eq text (codes "work")) Work _ tt
+    (choice (bytes_eq text (codes "seq")) Seq _ tt
+    (choice (bytes_eq text (codes "par")) Par _ tt
+    (choice (bytes_eq text (codes "for")) For _ tt
+    (choice (bytes_eq text (codes "pfor")) Pfor _ tt
+    (choice (bytes_eq text (codes "let")) Let _ tt
+    (choice (bytes_eq text (codes "=")) Equals None tt tt))))))))
+
+good_table_word : (kind : Option Kind) (verb : Option VerbWord) → IsGoodIfFound (option_or (option_map (λ kind. Object kind None) kind) (option_map (λ verb. Verb verb) verb))
+good_table_word (Some kind) verb = tt
+good_table_word None (Some verb) = tt
+good_table_word None None = tt
+
+good_either : (first second : Option Word) → IsGoodIfFound first → IsGoodIfFound second → IsGoodIfFound (option_or first second)
+good_either (Some own) second says more = says
+good_either None second says more = more
+
+found_or_else : (found : Option Word) (rest : Word) → IsGoodIfFound found → SaysWell rest → SaysWell (unwrap_or found rest)
+found_or_else (Some own) rest says more = says
+found_or_else None rest says more = more
+
+good_word : (text : List ℕ) → SaysWell (word_of text)
 good_word text =
-    chosen (bytes_eq text (codes "{")) Open _ tt
-    (chosen (bytes_eq text (codes "}")) Close _ tt
-    (chosen (bytes_eq text (codes "work")) Work _ tt
-    (chosen (bytes_eq text (codes "counter")) (Counter None) _ tt
-    (chosen (bytes_eq text (codes "stack")) (Stack None) _ tt
-    (chosen (bytes_eq text (codes "tree")) (Tree None) _ tt
-    (chosen (bytes_eq text (codes "queue")) (Queue None) _ tt
-    (chosen (bytes_eq text (codes "add")) Add _ tt
-    (chosen (bytes_eq text (codes "push")) Push _ tt
-    (chosen (bytes_eq text (codes "pop")) Pop _ tt
-    (chosen (bytes_eq text (codes "insert")) Insert _ tt
-    (chosen (bytes_eq text (codes "remove")) Remove _ tt
-    (chosen (bytes_eq text (codes "find")) Find _ tt
-    (chosen (bytes_eq text (codes "next")) Next _ tt
-    (chosen (bytes_eq text (codes "take")) Take _ tt
-    (chosen (bytes_eq text (codes "seq")) Seq _ tt
-    (chosen (bytes_eq text (codes "par")) Par _ tt
-    (chosen (bytes_eq text (codes "for")) For _ tt
-    (chosen (bytes_eq text (codes "pfor")) Pfor _ tt
-    (chosen (bytes_eq text (codes "let")) Let _ tt
-    (chosen (bytes_eq text (codes "=")) Equals _ tt
-    (good_argument_word text)))))))))))))))))))))
+    found_or_else (quoted_word text) (argument_word text)
+    (good_either (own_word text) (table_word text) (good_own_word text) (good_table_word (kind_by_text text) (word_by_text text))) (good_argument_word text).says
 
 pub good_words : (some : List Token) → AllByRecursion SaysWell (words_of (map word_on_line some))
 good_words [] = tt
-good_words (token ∷ some) = ((good_word token.text).says, good_words some)
+good_words (token ∷ some) = (good_word token.text, good_words some)
 
 -- a property of each element of a list holds of each element of both its parts
 pub parts : (front back : List Word) → AllByRecursion SaysWell (front ++ back) → AllByRecursion SaysWell front × AllByRecursion SaysWell back

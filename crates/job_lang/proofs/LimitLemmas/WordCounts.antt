@@ -7,7 +7,7 @@ use Rattle.job_names.specs.declared.name.Name.{Name}
 use Rattle.job_syntax.specs.declared.item.Item.{Item, Leaf as ItemLeaf, Let as ItemLet, Block}
 use Rattle.job_syntax.specs.declared.item.Leaf.{Leaf as CodeLeaf}
 use Rattle.job_syntax.specs.declared.item.BlockKind.{BlockKind as CodeBlockKind}
-use Rattle.job_syntax.specs.Grammar.{Items, ◌then◌, Leaf, with_argument, stack_pop, queue_take, bound, leaf_words, kind_words, items_words}
+use Rattle.job_syntax.specs.Grammar.{Items, ◌then◌, Leaf, work, call, bound, leaf_words, kind_words, items_words}
 use Rattle.job_syntax.specs.Faults.{words_of}
 use Rattle.job_syntax.specs.Views.{items_of, item_of, leaf_of, block_kind_of}
 use Rattle.job_syntax.proofs.ParserLemmas.Derivations.{words_then}
@@ -26,10 +26,9 @@ behind_words tokens before rest writes =
 
 -- each leaf writes at least one word
 pub leaf_writes : (leaf : Leaf) → 0 < length (leaf_words leaf)
-leaf_writes (with_argument op argument) = simp length-append (omega arith)
-leaf_writes (stack_pop object) = omega arith
-leaf_writes (queue_take object) = omega arith
-leaf_writes (bound name call) = omega arith
+leaf_writes (work argument) = omega arith
+leaf_writes (call verb object argument) = omega arith
+leaf_writes (bound name given) = omega arith
 
 pub front_word_count : (xs : List Item) (i : ℕ) → length (items_words (items_of (take i xs))) ≤ length (items_words (items_of xs))
 front_word_count xs i =
@@ -49,10 +48,10 @@ word_count_item x xs i h e = omega (arith, word_count_more xs i x h e, front_wor
 pub leaf_item_word_count : (leaf : CodeLeaf) → length (items_words (item_of (ItemLeaf leaf))) ≡ length (leaf_words (leaf_of leaf))
 leaf_item_word_count leaf = ap (λ items. length (items_words items)) (item_of_leaf leaf) ∙ ap length (append-nil (leaf_words (leaf_of leaf)))
 
-pub let_item_word_count : (name : Name) (call : CodeLeaf) → length (items_words (item_of (ItemLet name call))) ≡ length (leaf_words (leaf_of call)) + 3
-let_item_word_count name call =
-    let e = ap (λ items. length (items_words items)) (item_of_let name call) in
-    let f = ap length (append-nil (leaf_words (leaf_of call))) in
+pub let_item_word_count : (name : Name) (leaf : CodeLeaf) → length (items_words (item_of (ItemLet name leaf))) ≡ length (leaf_words (leaf_of leaf)) + 3
+let_item_word_count name leaf =
+    let e = ap (λ items. length (items_words items)) (item_of_let name leaf) in
+    let f = ap length (append-nil (leaf_words (leaf_of leaf))) in
     omega (arith, e, f)
 
 pub block_item_word_count : (kind : CodeBlockKind) (inside : Vec Item Global) → length (items_words (item_of (Block kind inside))) ≡ length (kind_words (block_kind_of kind)) + length (items_words (items_of inside.items)) + 2

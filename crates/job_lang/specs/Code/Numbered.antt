@@ -3,22 +3,12 @@ use Rattle.std.specs.Prelude.{◌≡◌, ℕ, ◌-◌, ◌≤◌, List, [], ◌�
 use Rattle.std.specs.List.{AllByRecursion}
 use Rattle.job_names.specs.declared.name.Name.{Name}
 use Rattle.job_names.specs.Names.{is_spelled, name_of, spelling}
-use Rattle.seq_objects.specs.Batches.{ObjectKind}
-use Rattle.seq_objects.specs.Batches as object
-use Rattle.job_lang.specs.declared.expand.objects.Kind.{Kind}
-use Rattle.job_lang.specs.declared.expand.objects.Kind.TheVariants.{Counter, Stack, Tree, Queue}
 use Rattle.job_lang.specs.declared.expand.objects.Object.{Object}
 use Rattle.job_lang.specs.declared.expand.objects.Objects.{Objects}
 use Rattle.job_lang.specs.Objects.{NamedObject, with_object, named_by, number_among}
 
-abbrev pub kind_in : Kind → ObjectKind
-kind_in Counter = object.Counter
-kind_in Stack = object.Stack
-kind_in Tree = object.Tree
-kind_in Queue = object.Queue
-
 abbrev pub object_in : Object → NamedObject
-object_in object = record { kind = kind_in object.kind; name = object.name }
+object_in object = record { kind = object.kind; name = object.name }
 
 -- the distinct objects
 abbrev pub named_in : Objects → List NamedObject

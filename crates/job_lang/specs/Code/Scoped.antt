@@ -1,21 +1,21 @@
 -- The leaves that the code adds, and their sources, by the scopes in which it makes its copies.
-use Rattle.std.specs.Prelude.{◌≡◌, ℕ, ◌+◌, ◌*◌, ◌≤◌, List, [], ◌∷◌, ◌++◌, length, Option, None, if◌then◌else◌}
+use Rattle.std.specs.Prelude.{◌≡◌, ℕ, ◌+◌, ◌*◌, ◌≤◌, List, [], ◌∷◌, ◌++◌, length, Option, option_and_then, if◌then◌else◌}
 use Rattle.job_names.specs.declared.kind.Kind.TheVariants as kind
 use Rattle.job_names.specs.declared.scopes.Let.{Let}
 use Rattle.job_names.specs.Scopes.{Scope, inside, last_of, lets_shown, with_lets}
 use Rattle.job_names.specs.Code.Kept.{IsKept}
 use Rattle.job_names.specs.Code.Kept as names
-use Rattle.job_syntax.specs.declared.lexer.word.Word.TheVariants.{Named}
-use Rattle.job_syntax.specs.Blocks.{word_number, copies_of}
-use Rattle.job_syntax.specs.Grammar.{Items, nothing, leaf_then, block_then, seq_block, par_block, for_loop, pfor_loop, Leaf, with_argument, bound, is_loop}
+use Rattle.job_syntax.specs.Blocks.{copies_of, name_kind}
+use Rattle.job_syntax.specs.Grammar.{Items, nothing, leaf_then, block_then, Leaf, bound, is_loop}
 use Rattle.job_lang.specs.declared.expand.leaves.Leaves.{Leaves}
+use Rattle.job_syntax.specs.Arguments.{name_used}
 use Rattle.job_lang.specs.Counts.{count}
-use Rattle.job_lang.specs.Meaning.{acts_in, objects_in, each_copy}
+use Rattle.job_lang.specs.Meaning.{acts_in, objects_in, each_copy, in_block_from}
 use Rattle.job_lang.specs.Code.Numbered.{NamesBehind}
 
 -- the let that a leaf with this number makes
 abbrev pub lets_at : ℕ → Leaf → List Let
-lets_at number (bound name call) = record { name = name; number = number } ∷ []
+lets_at number (bound name given) = record { name = name; number = number } ∷ []
 lets_at number _ = []
 
 -- the lets of items that are shown behind them, where the leaves have the numbers from `first` on
@@ -27,25 +27,16 @@ lets_behind first (block_then kind body more) =
 
 -- the source of a leaf in a scope
 abbrev pub scoped_source : Scope → Leaf → Option ℕ
-scoped_source scope (with_argument op (Named name)) = last_of name (lets_shown scope)
-scoped_source scope (bound name call) = scoped_source scope call
-scoped_source scope _ = None
+scoped_source scope leaf = option_and_then (λ name. last_of name (lets_shown scope)) (name_used leaf)
 
 -- the sources of the leaves of items in a scope
 abbrev pub scoped_sources : Scope → ℕ → Items → List (Option ℕ)
 scoped_sources scope first nothing = []
 scoped_sources scope first (leaf_then l more) =
     scoped_source scope l ∷ scoped_sources (with_lets scope (lets_at first l)) (first + 1) more
-scoped_sources scope first (block_then seq_block body more) =
-    scoped_sources (inside scope kind.Series []) first body ++ scoped_sources (with_lets scope (lets_behind first body)) (first + 1 * count body) more
-scoped_sources scope first (block_then par_block body more) =
-    scoped_sources (inside scope kind.Par []) first body ++ scoped_sources (with_lets scope (lets_behind first body)) (first + 1 * count body) more
-scoped_sources scope first (block_then (for_loop copies) body more) =
-    each_copy (word_number copies) (λ k. scoped_sources (inside scope kind.Loop []) (first + k * count body) body)
-    ++ scoped_sources scope (first + word_number copies * count body) more
-scoped_sources scope first (block_then (pfor_loop copies) body more) =
-    each_copy (word_number copies) (λ k. scoped_sources (inside scope kind.Loop []) (first + k * count body) body)
-    ++ scoped_sources scope (first + word_number copies * count body) more
+scoped_sources scope first (block_then kind body more) =
+    in_block_from kind first (count body) (λ at. scoped_sources (inside scope (name_kind kind) []) at body)
+    ++ scoped_sources (with_lets scope (if is_loop kind then [] else lets_behind first body)) (first + copies_of kind * count body) more
 
 -- What is kept of the leaves made so far: their scopes, and at most as many objects as leaves.
 pub record AreKept (leaves : Leaves) : Type 0 where

@@ -1,19 +1,21 @@
 //! The leaves of a job, while its copies are made.
-ghost use Rattle.std.specs.Prelude.{◌≡◌, ◌+◌, ◌<◌, ◌≤◌, [], length, OnOk};
+ghost use Rattle.std.specs.Prelude.{◌≡◌, ◌+◌, ◌<◌, ◌≤◌, [], Some, length, OnOk};
+ghost use Rattle.std.specs.Option.{option_map};
 ghost use Rattle.job_names.specs.Code.Kept.{IsKept};
 ghost use Rattle.job_names.specs.Code.Kept as names;
 ghost use Rattle.job_names.specs.Scopes.{job, inside, closed};
 ghost use Rattle.job_syntax.specs.Blocks.{name_kind};
 ghost use Rattle.job_syntax.specs.Grammar.{leaf_then, nothing, bound};
-ghost use Rattle.job_syntax.specs.Views.{argument_word, unary_op_of, leaf_of, block_kind_of};
-ghost use Rattle.job_lang.specs.Meaning.{number_in, act_with, act_of};
+ghost use Rattle.job_syntax.specs.Views.{argument_word, leaf_of, block_kind_of};
+ghost use Rattle.job_lang.specs.Meaning.{number_in, argument_in, act_of};
 ghost use Rattle.job_lang.specs.Code.Ranges.{FitsArgument, FitsLeaf};
 ghost use Rattle.job_lang.specs.Code.Numbered.{AreListed};
 ghost use Rattle.job_lang.specs.Code.Scoped.{Adds, AreKept, scoped_source};
 
+use crate::arguments::leaf_argument;
 use crate::expand::objects::{Objects, object_of};
 use job_names::{Name, Scopes};
-use job_syntax::{Argument, BlockKind, Leaf, UnaryOp};
+use job_syntax::{Argument, BlockKind, Leaf};
 use seq_objects::{Act, Op};
 use std::alloc::{AllocError, Global};
 
@@ -29,7 +31,7 @@ pub(crate) struct Leaves {
 
 /// The value of an argument in copy `copy` of its innermost loop. A name stands as 0.
 fn number_in(copy: u32, argument: Argument) -> u32
-    requires { FitsArgument copy (argument_word argument) }
+    requires { FitsArgument copy (Some (argument_word argument)) }
     ensures { result ≡ number_in copy (argument_word argument) }
 {
     match argument {
@@ -39,31 +41,27 @@ fn number_in(copy: u32, argument: Argument) -> u32
     }
 }
 
-/// The act of an operation whose argument has this value, on the object with the number 0.
-fn act_with(op: UnaryOp, number: u32) -> Act
-    ensures { result ≡ act_with (unary_op_of op) number }
+/// The value of the argument of a call in copy `copy`, or 0 where it takes none.
+fn argument_in(copy: u32, argument: Option<Argument>) -> u32
+    requires { FitsArgument copy (option_map argument_word argument) }
+    ensures { result ≡ argument_in copy (option_map argument_word argument) }
 {
-    match op {
-        UnaryOp::Work => Act::Work(number),
-        UnaryOp::CounterAdd(_) => Act::Call(Op::CounterAdd(0, number)),
-        UnaryOp::StackPush(_) => Act::Call(Op::Push(0, number)),
-        UnaryOp::TreeInsert(_) => Act::Call(Op::TreeInsert(0, number)),
-        UnaryOp::TreeRemove(_) => Act::Call(Op::TreeRemove(0, number)),
-        UnaryOp::TreeFind(_) => Act::Call(Op::TreeFind(0, number)),
-        UnaryOp::TreeNext(_) => Act::Call(Op::TreeNext(0, number)),
-        UnaryOp::QueueInsert(_) => Act::Call(Op::PqInsert(0, number)),
+    match argument {
+        Some(argument) => number_in(copy, argument),
+        None => 0,
     }
 }
 
-/// The act of a leaf in copy `copy`.
+/// The act of a leaf in copy `copy`, on the object with the number 0.
 fn act_in(copy: u32, leaf: Leaf) -> Act
     requires { FitsLeaf copy (leaf_of leaf) }
     ensures { result ≡ act_of copy (leaf_of leaf) }
 {
     match leaf {
-        Leaf::WithArgument(op, argument) => act_with(op, number_in(copy, argument)),
-        Leaf::StackPop(_) => Act::Call(Op::Pop(0)),
-        Leaf::QueueTake(_) => Act::Call(Op::PqTake(0)),
+        Leaf::Work(argument) => Act::Work(number_in(copy, argument)),
+        Leaf::Call { verb, argument, .. } => {
+            Act::Call(Op::of(verb, 0, argument_in(copy, argument)))
+        }
     }
 }
 
@@ -89,8 +87,8 @@ impl Leaves {
         requires { IsKept self.now.scopes }
         ensures { result ≡ scoped_source (names.view self.now.scopes) (leaf_of leaf) }
     {
-        match leaf {
-            Leaf::WithArgument(_, Argument::Reply(name)) => self.scopes.look(name),
+        match leaf_argument(leaf) {
+            Some(Argument::Reply(name)) => self.scopes.look(name),
             _ => None,
         }
     }

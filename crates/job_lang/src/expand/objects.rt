@@ -2,26 +2,18 @@
 ghost use Rattle.std.specs.Prelude.{◌≡◌, ◌+◌, ◌-◌, ◌<◌, ◌≤◌, ◌++◌, [], ◌∷◌, Some, length, replicate, map, IfOk, OnOk};
 ghost use Rattle.std.specs.Option.{option_map};
 ghost use Rattle.job_names.specs.Names.{spelling};
-ghost use Rattle.job_syntax.specs.Views.{unary_op_of, leaf_of};
+ghost use Rattle.job_syntax.specs.Views.{leaf_of};
 ghost use Rattle.sp_order.specs.Objects.{AreNumbered, AreUnnamed, with_numbers};
 ghost use Rattle.job_lang.specs.Objects.{number_among, with_object};
-ghost use Rattle.job_lang.specs.Meaning.{op_object, object_of, object_named};
-ghost use Rattle.job_lang.specs.Code.Numbered.{kind_in, object_in, named_in, names_in, numbers_in, AreListed, NamesBehind};
+ghost use Rattle.job_lang.specs.Meaning.{object_of, object_named};
+ghost use Rattle.job_lang.specs.Code.Numbered.{object_in, named_in, names_in, numbers_in, AreListed, NamesBehind};
 
 use indexmap::IndexSet;
 use job_names::Name;
-use job_syntax::{Leaf, UnaryOp};
+use job_syntax::Leaf;
+use seq_objects::Kind;
 use sp_order::Job;
 use std::alloc::{AllocError, Global};
-
-/// The kind of an object.
-#[derive(Clone, Copy, PartialEq, Eq, Hash)]
-pub(crate) enum Kind {
-    Counter,
-    Stack,
-    Tree,
-    Queue,
-}
 
 /// An object that a leaf names.
 #[derive(Clone, Copy, PartialEq, Eq, Hash)]
@@ -41,27 +33,11 @@ pub(crate) struct Objects {
 
 /// The object of a kind with this name, if there is one.
 fn object_named(kind: Kind, name: Option<Name>) -> Option<Object>
-    ensures { option_map object_in result ≡ object_named (kind_in kind) name }
+    ensures { option_map object_in result ≡ object_named kind name }
 {
     match name {
         Some(name) => Some(Object { kind, name }),
         None => None,
-    }
-}
-
-/// The object that an operation names, if it names one.
-fn op_object(op: UnaryOp) -> Option<Object>
-    ensures { option_map object_in result ≡ op_object (unary_op_of op) }
-{
-    match op {
-        UnaryOp::Work => None,
-        UnaryOp::CounterAdd(name) => object_named(Kind::Counter, name),
-        UnaryOp::StackPush(name) => object_named(Kind::Stack, name),
-        UnaryOp::TreeInsert(name)
-        | UnaryOp::TreeRemove(name)
-        | UnaryOp::TreeFind(name)
-        | UnaryOp::TreeNext(name) => object_named(Kind::Tree, name),
-        UnaryOp::QueueInsert(name) => object_named(Kind::Queue, name),
     }
 }
 
@@ -70,9 +46,8 @@ pub(crate) fn object_of(leaf: Leaf) -> Option<Object>
     ensures { option_map object_in result ≡ object_of (leaf_of leaf) }
 {
     match leaf {
-        Leaf::WithArgument(op, _) => op_object(op),
-        Leaf::StackPop(name) => object_named(Kind::Stack, name),
-        Leaf::QueueTake(name) => object_named(Kind::Queue, name),
+        Leaf::Work(_) => None,
+        Leaf::Call { verb, object, .. } => object_named(verb.kind(), object),
     }
 }
 

@@ -3,9 +3,9 @@ use Rattle.sp_order.specs.Precedence.{tree_of, seq}
 use Rattle.job_syntax.specs.Grammar.{block_then, nothing}
 use Rattle.job_syntax.specs.Views.{items_of, item_of, block_kind_of}
 use Rattle.job_syntax.specs.declared.item.BlockKind.TheVariants as kind
-use Rattle.job_lang.specs.Meaning.{shapes_in, join_list}
+use Rattle.job_lang.specs.Meaning.{shapes_in, join_list, join_in}
 use Rattle.job_lang.specs.Orders.{join_by}
-use Rattle.job_lang.specs.Code.Orders.{join_in, shapes_inside}
+use Rattle.job_lang.specs.Code.Orders.{shapes_inside}
 use Rattle.job_lang.specs.Code.Scoped.{Adds}
 use Rattle.job_lang.proofs.ExpandLemmas.Copies.{shapes_step, fits_item, block_shapes}
 use Rattle.job_lang.proofs.ExpandLemmas.Joining.{joined_behind, joined_block}

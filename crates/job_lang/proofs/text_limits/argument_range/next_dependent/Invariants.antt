@@ -1,6 +1,6 @@
 use Rattle.std.proofs.Common.{◌≡◌, length}
 use Rattle.job_lang.specs.Code.Searches.{dependents}
-use Rattle.job_lang.proofs.limits.argument_range.next_dependent.Given as goal
+use Rattle.job_lang.proofs.text_limits.argument_range.next_dependent.Given as goal
 
 abbrev pub invariant-loop-token : goal.invariant-loop-token
 invariant-loop-token l = dependents l.initial.words ≡ dependents l.words

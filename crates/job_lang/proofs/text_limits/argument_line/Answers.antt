@@ -4,7 +4,7 @@ use Rattle.job_lang.specs.Limits.{argument_line, range_flags}
 use Rattle.job_lang.specs.Code.Searches.{dependents}
 use Rattle.job_syntax.specs.Views.{items_of}
 use Rattle.job_lang.proofs.LimitLemmas.ArgumentRanges.{found_line, none_set}
-use Rattle.job_lang.proofs.limits.argument_line.Goals as goal
+use Rattle.job_lang.proofs.text_limits.argument_line.Goals as goal
 
 pub returns-then-not-any_out_of_range : goal.returns-then-not-any_out_of_range
 returns-then-not-any_out_of_range c =

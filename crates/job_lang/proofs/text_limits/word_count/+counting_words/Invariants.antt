@@ -2,7 +2,7 @@ use Rattle.std.proofs.Common.{◌≡◌, ◌+◌, length, take}
 use Rattle.job_syntax.specs.Grammar.{items_words}
 use Rattle.job_syntax.specs.Views.{items_of, item_of}
 use Rattle.job_lang.proofs.Weights.{weight}
-use Rattle.job_lang.proofs.limits.word_count.+counting_words.Given as goal
+use Rattle.job_lang.proofs.text_limits.word_count.+counting_words.Given as goal
 
 abbrev pub invariant-items_word_count-loop-item : goal.invariant-items_word_count-loop-item
 invariant-items_word_count-loop-item l = l.word_count ≡ length (items_words (items_of (take l.item-index l.items)))

@@ -5,7 +5,7 @@ use Rattle.job_syntax.proofs.LexerLemmas.Fewer.{few_words}
 use Rattle.job_lang.proofs.LimitLemmas.Cuts.{count_more}
 use Rattle.job_lang.proofs.LimitLemmas.WordCounts.{word_count_more}
 use Rattle.job_lang.proofs.LimitLemmas.LeavesLines.{first_word, last_word, leaves_line_of}
-use Rattle.job_lang.proofs.limits.leaves_line.Goals as goal
+use Rattle.job_lang.proofs.text_limits.leaves_line.Goals as goal
 
 pub line_at-requires-clause-within : goal.line_at-requires-clause-within
 line_at-requires-clause-within c =

@@ -6,6 +6,7 @@ ghost use Rattle.job_lang.specs.Limits.{copies_inside, is_out_of_range, leaf_ran
 ghost use Rattle.job_lang.specs.Code.Searches.{dependents, Finds};
 ghost use Rattle.job_syntax.specs.Views.{argument_word, leaf_of, block_kind_of, item_of, items_of};
 
+use crate::arguments::leaf_argument;
 use job_syntax::{Argument, BlockKind, Cursor, Item, Leaf, Word, WordOnLine};
 
 /// Takes words up to and with the next that depends on the copy, and gives that one.
@@ -46,7 +47,7 @@ fn is_out_of_range(copies: u32, factor: u32, addend: u32) -> bool
 fn is_leaf_out_of_range(copies: u32, leaf: Leaf) -> bool
     ensures { result ≡ list_any (λ flag. flag) (leaf_range_flags copies (leaf_of leaf)) }
 {
-    let Leaf::WithArgument(_, Argument::Copies(factor, addend)) = leaf else {
+    let Some(Argument::Copies(factor, addend)) = leaf_argument(leaf) else {
         return false;
     };
     is_out_of_range(copies, factor, addend)
@@ -82,7 +83,7 @@ fn is_item_out_of_range(copies: u32, item: &Item) -> bool
 fn out_of_range_in_leaf(copies: u32, leaf: Leaf, words: &mut Cursor) -> Option<u32>
     ensures { Finds (leaf_range_flags copies (leaf_of leaf)) words.old result words.new }
 {
-    let Leaf::WithArgument(_, Argument::Copies(factor, addend)) = leaf else {
+    let Some(Argument::Copies(factor, addend)) = leaf_argument(leaf) else {
         return None;
     };
     let Some(token) = next_dependent(words) else {

@@ -10,11 +10,11 @@ ghost use Rattle.job_syntax.specs.declared.lexer.word.WordOnLine.{WordOnLine};
 
 mod argument_range;
 mod leaf_count;
-mod word_count;
+pub(crate) mod word_count;
 
-use crate::limits::argument_range::{any_out_of_range, out_of_range_in_items};
-use crate::limits::leaf_count::count_item;
-use crate::limits::word_count::item_word_count;
+use crate::text_limits::argument_range::{any_out_of_range, out_of_range_in_items};
+use crate::text_limits::leaf_count::count_item;
+use crate::text_limits::word_count::item_word_count;
 use job_syntax::{Cursor, Item};
 
 /// The most leaves that a job may have.

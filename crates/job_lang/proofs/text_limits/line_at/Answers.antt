@@ -1,7 +1,7 @@
 use Rattle.std.proofs.Common.{◌≡◌, drop, sym, ap, ◌∙◌, arith}
 use Rattle.job_syntax.specs.Words.{words_on_lines}
 use Rattle.job_lang.proofs.LimitLemmas.WordPlaces.{one_more, some_word}
-use Rattle.job_lang.proofs.limits.line_at.Goals as goal
+use Rattle.job_lang.proofs.text_limits.line_at.Goals as goal
 
 pub loop-preserved : goal.loop-preserved
 loop-preserved c = one_more c.next.result (words_on_lines c.args.text.now) c.loop.words c.next.new.self c.loop.counter c.loop.invariant c.next.ensures

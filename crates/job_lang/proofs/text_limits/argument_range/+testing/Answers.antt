@@ -1,6 +1,6 @@
 use Rattle.std.proofs.Common.{sym, ◌∙◌}
 use Rattle.job_lang.proofs.LimitLemmas.ArgumentRanges.{none_more, some_here}
-use Rattle.job_lang.proofs.limits.argument_range.+testing.Goals as goal
+use Rattle.job_lang.proofs.text_limits.argument_range.+testing.Goals as goal
 
 pub any_out_of_range-returns-then-is_item_out_of_range : goal.any_out_of_range-returns-then-is_item_out_of_range
 any_out_of_range-returns-then-is_item_out_of_range t c =

@@ -1,5 +1,5 @@
 use Rattle.job_lang.proofs.LimitLemmas.ArgumentRanges.{passed, found_here}
-use Rattle.job_lang.proofs.limits.argument_range.+scanning.Goals as goal
+use Rattle.job_lang.proofs.text_limits.argument_range.+scanning.Goals as goal
 
 pub out_of_range_in_items-returns-in-Some : goal.out_of_range_in_items-returns-in-Some
 out_of_range_in_items-returns-in-Some t c =

@@ -1,31 +1,17 @@
 //! The number of words that items write, by which the first word of an item is found.
 ghost use Rattle.std.specs.Prelude.{◌≡◌, ◌<◌, ◌^◌, length};
-ghost use Rattle.job_syntax.specs.Grammar.{unary_op_words, leaf_words, kind_words, items_words};
-ghost use Rattle.job_syntax.specs.Views.{unary_op_of, leaf_of, block_kind_of, item_of, items_of};
+ghost use Rattle.job_syntax.specs.Grammar.{leaf_words, kind_words, items_words};
+ghost use Rattle.job_syntax.specs.Views.{leaf_of, block_kind_of, item_of, items_of};
 
-use job_syntax::{BlockKind, Item, Leaf, UnaryOp};
-
-fn unary_op_word_count(op: UnaryOp) -> usize
-    ensures { result ≡ length (unary_op_words (unary_op_of op)) }
-{
-    match op {
-        UnaryOp::Work => 1,
-        UnaryOp::CounterAdd(_)
-        | UnaryOp::StackPush(_)
-        | UnaryOp::TreeInsert(_)
-        | UnaryOp::TreeRemove(_)
-        | UnaryOp::TreeFind(_)
-        | UnaryOp::TreeNext(_)
-        | UnaryOp::QueueInsert(_) => 2,
-    }
-}
+use job_syntax::{BlockKind, Item, Leaf};
 
 fn leaf_word_count(leaf: Leaf) -> usize
     ensures { result ≡ length (leaf_words (leaf_of leaf)) }
 {
     match leaf {
-        Leaf::WithArgument(op, _) => unary_op_word_count(op) + 1,
-        Leaf::StackPop(_) | Leaf::QueueTake(_) => 2,
+        Leaf::Work(_) => 2,
+        Leaf::Call { argument: None, .. } => 2,
+        Leaf::Call { argument: Some(_), .. } => 3,
     }
 }
 
@@ -56,7 +42,7 @@ fn items_word_count(items: &[Item]) -> usize
 /// The number of words that the item writes.
 #[cycle(counting_words)]
 #[tactic(auto, using(crate::proofs::LimitLemmas::WordCounts::leaf_item_word_count, crate::proofs::LimitLemmas::WordCounts::let_item_word_count, crate::proofs::LimitLemmas::WordCounts::block_item_word_count, crate::proofs::Weights::weight_block))]
-pub(crate) fn item_word_count(item: &Item) -> usize
+pub fn item_word_count(item: &Item) -> usize
     requires { length (items_words (item_of item.now)) < 2 ^ 63 }
     ensures { result ≡ length (items_words (item_of item.now)) }
 {

@@ -1,5 +1,5 @@
 use Rattle.job_lang.proofs.LimitLemmas.Cuts.{count_step}
-use Rattle.job_lang.proofs.limits.leaf_count.+counting_leaves.Goals as goal
+use Rattle.job_lang.proofs.text_limits.leaf_count.+counting_leaves.Goals as goal
 
 pub count_items-loop-item-preserved : goal.count_items-loop-item-preserved
 count_items-loop-item-preserved t c =

@@ -1,6 +1,6 @@
 use Rattle.std.proofs.Common.{arith, ◌+◌}
 use Rattle.job_lang.proofs.LimitLemmas.WordCounts.{word_count_more, front_word_count}
-use Rattle.job_lang.proofs.limits.word_count.+counting_words.Goals as goal
+use Rattle.job_lang.proofs.text_limits.word_count.+counting_words.Goals as goal
 
 pub items_word_count-overflow_add-word_count : goal.items_word_count-overflow_add-word_count
 items_word_count-overflow_add-word_count t c =

@@ -1,72 +1,50 @@
--- The run of digits at the front of a text, and what follows it.
-use Rattle.std.proofs.Common.{rules, ◌≡◌, ℕ, ◌+◌, ◌<◌, ◌≤◌, ◌^◌, Bool, true, false, List, [], ◌∷◌, ◌++◌, length, take, drop, refl, sym, ap, ◌∙◌, one-add, arith}
+-- Runs at the front of a text, and what follows them.
+use Rattle.std.proofs.Common.{◌≡◌, ℕ, ◌+◌, ◌≤◌, Bool, true, false, List, [], ◌∷◌, ◌++◌, length, take, drop, refl, sym, ap, ◌∙◌, one-add}
 use Rattle.std.specs.Prelude.{cond}
-use Rattle.std.specs.List.{prefix_len, AllByRecursion}
-use Rattle.std.specs.Char.{is_ascii_digit}
-use Rattle.std.specs.Fmt.{decimal}
-use Rattle.std.specs.Str.Parse.{digits_value}
-use Rattle.std.proofs.lemmas.Fmt.{digits_decimal, decimal_injective}
+use Rattle.std.specs.List.{prefix_len}
 use Rattle.std.proofs.lemmas.List.{take-append-drop}
 use Rattle.std.proofs.lemmas.List.Sums.{prefix_len-le-length}
-use Rattle.std.proofs.lemmas.Str.Parse.{IsNumeralModel, numerals_by_value}
-use Rattle.decimals.specs.Texts.{BeginsNoDigit, IsDecimalThen}
+use Rattle.decimals.specs.Runs.{AllBelong, BeginsOutside}
 
-abbrev pub Digits : List ℕ → Type 0
-Digits text = AllByRecursion (λ byte. is_ascii_digit byte ≡ true) text
-
-own : IsNumeralModel Digits (digits_value 10)
-own = numerals_by_value Digits (search rules)
-
-pub decimal_digits : (n : ℕ) → n < 2 ^ 64 → Digits (decimal n)
-decimal_digits n small = digits_decimal own n small
-
-run_at : (byte : ℕ) (text : List ℕ) (is : Bool) (n : ℕ) → is_ascii_digit byte ≡ is → Digits (take n text) → BeginsNoDigit (drop n text)
-    → Digits (take (cond is (1 + n) 0) (byte ∷ text)) × BeginsNoDigit (drop (cond is (1 + n) 0) (byte ∷ text))
-run_at byte text true n is digits ends = rw one-add ((is, digits), ends)
-run_at byte text false n is digits ends = (tt, is)
-
--- the run consists of digits, and the text behind it does not begin with one
-pub run_is : (text : List ℕ) → Digits (take (prefix_len is_ascii_digit text) text) × BeginsNoDigit (drop (prefix_len is_ascii_digit text) text)
-run_is [] = (tt, tt)
-run_is (byte ∷ text) =
-    let rest = run_is text in
-    run_at byte text (is_ascii_digit byte) (prefix_len is_ascii_digit text) refl rest.0 rest.1
-
-pub run_within : (text : List ℕ) → prefix_len is_ascii_digit text ≤ length text
-run_within text = prefix_len-le-length is_ascii_digit text
-
--- a text splits into digits and a rest that does not begin with a digit in one way only
-pub digits_apart : (xs ys r s : List ℕ) → Digits xs → Digits ys → BeginsNoDigit r → BeginsNoDigit s → xs ++ r ≡ ys ++ s → (xs ≡ ys) × (r ≡ s)
-digits_apart [] [] r s dx dy er es is = (refl, is)
-digits_apart [] (y ∷ ys) [] s dx dy er es is = cc
-digits_apart [] (y ∷ ys) (b ∷ r) s dx dy er es is = cc (dy.0)
-digits_apart (x ∷ xs) [] r [] dx dy er es is = cc
-digits_apart (x ∷ xs) [] r (b ∷ s) dx dy er es is = cc (dx.0)
-digits_apart (x ∷ xs) (y ∷ ys) r s dx dy er es is =
+-- a text splits into bytes that belong and a rest that begins outside in one way only
+pub runs_apart : (belongs : ℕ → Bool) (xs ys r s : List ℕ) → AllBelong belongs xs → AllBelong belongs ys → BeginsOutside belongs r → BeginsOutside belongs s → xs ++ r ≡ ys ++ s → (xs ≡ ys) × (r ≡ s)
+runs_apart belongs [] [] r s bx by er es is = (refl, is)
+runs_apart belongs [] (y ∷ ys) [] s bx by er es is = cc
+runs_apart belongs [] (y ∷ ys) (b ∷ r) s bx by er es is = cc (by.0)
+runs_apart belongs (x ∷ xs) [] r [] bx by er es is = cc
+runs_apart belongs (x ∷ xs) [] r (b ∷ s) bx by er es is = cc (bx.0)
+runs_apart belongs (x ∷ xs) (y ∷ ys) r s bx by er es is =
     let head : x ≡ y = cc in
     let tail : xs ++ r ≡ ys ++ s = cc in
-    let more = digits_apart xs ys r s dx.1 dy.1 er es tail in
+    let more = runs_apart belongs xs ys r s bx.1 by.1 er es tail in
     (cc (more.0), more.1)
 
-pub one_way : (most : ℕ) (text : List ℕ) (m n : ℕ) (rest rest' : List ℕ) → most < 2 ^ 64 → IsDecimalThen most text m rest → IsDecimalThen most text n rest' → (m ≡ n) × (rest ≡ rest')
-one_way most text m n rest rest' small a b =
-    let below : m < 2 ^ 64 = omega (arith, a.within) in
-    let below' : n < 2 ^ 64 = omega (arith, b.within) in
-    let parts = digits_apart (decimal m) (decimal n) rest rest' (decimal_digits m below) (decimal_digits n below') a.ends b.ends (a.written ∙ sym b.written) in
-    (decimal_injective m n below below' parts.0, parts.1)
+run_at : (belongs : ℕ → Bool) (byte : ℕ) (text : List ℕ) (is : Bool) (n : ℕ) → belongs byte ≡ is → AllBelong belongs (take n text) → BeginsOutside belongs (drop n text)
+    → AllBelong belongs (take (cond is (1 + n) 0) (byte ∷ text)) × BeginsOutside belongs (drop (cond is (1 + n) 0) (byte ∷ text))
+run_at belongs byte text true n is all ends = rw one-add ((is, all), ends)
+run_at belongs byte text false n is all ends = (tt, is)
 
--- if the text is a decimal and then a rest, its run of digits is this decimal
-pub run_written : (most k : ℕ) (text : List ℕ) (n : ℕ) (rest : List ℕ) → most < 2 ^ 64 → k ≡ prefix_len is_ascii_digit text → IsDecimalThen most text n rest → (take k text ≡ decimal n) × (drop k text ≡ rest)
-run_written most k text n rest small is a =
-    let below : n < 2 ^ 64 = omega (arith, a.within) in
-    let run = run_is text in
-    let parts = digits_apart (take k text) (decimal n) (drop k text) rest (rw is run.0) (decimal_digits n below) (rw is run.1) a.ends (take-append-drop k text ∙ sym a.written) in
-    parts
+run_is : (belongs : ℕ → Bool) (text : List ℕ) → AllBelong belongs (take (prefix_len belongs text) text) × BeginsOutside belongs (drop (prefix_len belongs text) text)
+run_is belongs [] = (tt, tt)
+run_is belongs (byte ∷ text) =
+    let rest = run_is belongs text in
+    run_at belongs byte text (belongs byte) (prefix_len belongs text) refl rest.0 rest.1
 
--- if the run is the decimal of a number within the bound, the text is this decimal and then the rest
-pub run_read : (most k : ℕ) (text digits rest : List ℕ) (n : ℕ) → k ≡ prefix_len is_ascii_digit text → digits ≡ take k text → rest ≡ drop k text → digits ≡ decimal n → n ≤ most → IsDecimalThen most text n rest
-run_read most k text digits rest n is front back written within = record {
-  written = ap (λ d. d ++ rest) (sym written) ∙ ap (λ d. d ++ rest) front ∙ ap (λ r. take k text ++ r) back ∙ take-append-drop k text;
-  ends = rw (back, is) (run_is text).1;
-  within = within;
-}
+-- where a text is split behind its run
+module _ (belongs : ℕ → Bool) (k : ℕ) (text : List ℕ) (is : k ≡ prefix_len belongs text) where
+  pub run_within : k ≤ length text
+  run_within = rw is (prefix_len-le-length belongs text)
+
+  -- the text behind the run begins outside
+  pub run_ends : (back : List ℕ) → back ≡ drop k text → BeginsOutside belongs back
+  run_ends back behind = rw (behind, is) (run_is belongs text).1
+
+  -- a text that is bytes that belong and a rest that begins outside is split into them
+  pub run_split : (front rest : List ℕ) → AllBelong belongs front → BeginsOutside belongs rest → front ++ rest ≡ text → (take k text ≡ front) × (drop k text ≡ rest)
+  run_split front rest all ends parts =
+      let run = run_is belongs text in
+      runs_apart belongs (take k text) front (drop k text) rest (rw is run.0) all (rw is run.1) ends (take-append-drop k text ∙ sym parts)
+
+-- the two parts of a text that is split
+pub split_parts : (k : ℕ) (text front back : List ℕ) → front ≡ take k text → back ≡ drop k text → front ++ back ≡ text
+split_parts k text front back at behind = ap (λ t. t ++ back) at ∙ ap (λ t. take k text ++ t) behind ∙ take-append-drop k text

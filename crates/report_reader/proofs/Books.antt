@@ -9,15 +9,15 @@ use Rattle.batch_history.specs.declared.batch.Entry.{Entry}
 use Rattle.batch_history.specs.declared.row.Row.{Row}
 use Rattle.report_reader.specs.Raw.{FitsEntry}
 use Rattle.report_reader.specs.Code.Objects.{is_mark, mark_of, names_in}
-use Rattle.report_reader.specs.Code.Operations.{kind_of_verb}
+use Rattle.seq_objects.specs.Verbs.{kind_of_verb}
 use Rattle.report_reader.specs.Code.Lines.{line_text, IsLineThen, FitsCall, call_line, IsCallThen}
 use Rattle.report_reader.specs.Code.Groups.{numbered_batch, numbered_book}
-use Rattle.report_reader.specs.declared.object.Kind.{Kind}
+use Rattle.seq_objects.specs.declared.kind.Kind.{Kind}
 use Rattle.report_reader.specs.declared.call.Line.{Line}
 use Rattle.report_reader.specs.declared.call.Numbered.{Numbered}
 use Rattle.report_reader.specs.declared.table.Table.{Table}
 use Rattle.report_reader.proofs.Fields.{some_length}
-use Rattle.report_reader.proofs.Operations.{verb_of}
+use Rattle.seq_objects.specs.Parts.{kind_of}
 use Rattle.report_reader.proofs.CallLines.{place_from, line_whole, line_of, call_marked, line_at, one_line}
 use Rattle.report_reader.proofs.Rows.{worker_from, row_whole}
 use Rattle.seq_objects.proofs.Elements.{each_append, each_left, each_right}
@@ -43,7 +43,7 @@ pub record AreLinesThen (Known : Kind → List ℕ → Type 0) (names : List (Li
   pub written : flat_map (call_line names) calls ++ rest ≡ text
   pub fits : AllByRecursion FitsCall calls
   pub marked : AllByRecursion (λ (call : Numbered). is_mark (mark_of names call.entry.op) ≡ true) calls
-  pub known : AllByRecursion (λ (call : Numbered). Known (kind_of_verb (verb_of call.entry.op)) (mark_of names call.entry.op)) calls
+  pub known : AllByRecursion (λ (call : Numbered). Known (kind_of call.entry.op) (mark_of names call.entry.op)) calls
   pub ends : (line : Line) (mark more : List ℕ) → IsLineThen rest line mark more → Known (kind_of_verb line.spoken.verb) mark → ⊥
 
 same_told : (l l' : Line) (m m' : List ℕ) (xs ys : List (Line × List ℕ)) → l ≡ l' → m ≡ m' → xs ≡ ys → ◌≡◌ {A = List (Line × List ℕ)} ((l, m) ∷ xs) ((l', m') ∷ ys)

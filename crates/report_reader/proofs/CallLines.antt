@@ -17,7 +17,8 @@ use Rattle.report_reader.specs.declared.operation.Spoken.{Spoken}
 use Rattle.report_reader.specs.declared.call.Line.{Line}
 use Rattle.report_reader.specs.declared.call.Numbered.{Numbered}
 use Rattle.report_reader.proofs.Fields.{small, big, NoField, NoWords, field_apart, written_of, passes, stops}
-use Rattle.report_reader.proofs.Operations.{spoken_of, words_parts, op_back, spoken_back, argument_fits, argument_small, one_op}
+use Rattle.seq_objects.proofs.Parts.{whole as whole_op}
+use Rattle.report_reader.proofs.Operations.{spoken_of, words_parts, spoken_back, argument_fits, argument_small, one_op}
 use Rattle.report_reader.proofs.Replies.{one_reply}
 
 -- what stands behind each part of a call's line
@@ -179,7 +180,7 @@ line_back line number fits =
 
 pub call_back : (call : Numbered) → call_of (line_of call) (number_of call.entry.op) ≡ call
 call_back call =
-    ap (λ (o : Op). record { batch = call.batch; place = call.place; entry = record { leaf = call.entry.leaf; worker = call.entry.worker; op = o; reply = call.entry.reply } }) (op_back call.entry.op)
+    ap (λ (o : Op). record { batch = call.batch; place = call.place; entry = record { leaf = call.entry.leaf; worker = call.entry.worker; op = o; reply = call.entry.reply } }) (whole_op call.entry.op)
 
 -- the line of a call whose mark is one stands at the front of a text
 pub line_at : (names : List (List ℕ)) (call : Numbered) (text rest : List ℕ) → FitsCall call → is_mark (mark_of names call.entry.op) ≡ true → call_line names call ++ rest ≡ text

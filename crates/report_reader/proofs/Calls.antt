@@ -4,18 +4,20 @@ use Rattle.std.specs.Prelude.{IsSome}
 use Rattle.std.specs.List.{flat_map, AllByRecursion}
 use Rattle.std.proofs.lemmas.List.{get_or_append_left}
 use Rattle.std.proofs.lemmas.Grind.{flat_map-append}
+use Rattle.seq_objects.specs.Parts.{kind_of}
 use Rattle.seq_objects.specs.Objects.{number_of}
 use Rattle.seq_objects.specs.Words.{name_words}
 use Rattle.job_names.specs.Names.{AreSpelled, is_spelled}
 use Rattle.sp_order.specs.Objects.{name_of_number}
-use Rattle.report_reader.specs.Code.Objects.{is_mark, kind_of_op, names_in, found, mark_of, IsKept, IsKnown, IsFound, Extends}
-use Rattle.report_reader.specs.Code.Operations.{kind_of_verb, op_of_verb}
-use Rattle.report_reader.specs.Code.Lines.{line_text, FitsLine, IsLineThen, call_of, call_line, FitsCall, IsCallThen, AreCallsThen}
-use Rattle.report_reader.specs.declared.object.Kind.{Kind}
+use Rattle.report_reader.specs.Code.Objects.{is_mark, names_in, found, mark_of, IsKept, IsKnown, IsFound, Extends}
+use Rattle.seq_objects.specs.Parts.{op_of}
+use Rattle.seq_objects.specs.Verbs.{kind_of_verb}
+use Rattle.report_reader.specs.Code.Lines.{line_text, IsLineThen, call_of, call_line, FitsCall, IsCallThen, AreCallsThen}
+use Rattle.seq_objects.specs.declared.kind.Kind.{Kind}
 use Rattle.report_reader.specs.declared.call.Line.{Line}
 use Rattle.report_reader.specs.declared.call.Numbered.{Numbered}
 use Rattle.report_reader.specs.declared.table.Table.{Table}
-use Rattle.report_reader.proofs.Operations.{number_back, own_kind}
+use Rattle.seq_objects.proofs.Parts.{kind_given, number_given}
 use Rattle.report_reader.proofs.CallLines.{line_of, call_marked, call_fits, line_back}
 use Rattle.report_reader.proofs.Growing.{mark_parts}
 use Rattle.seq_objects.proofs.Elements.{each_push}
@@ -55,22 +57,19 @@ found_within table kind mark number kept marked is = elim (mark_parts mark marke
   | inr named ↦ (kept.numbers kind named.0 number named.2 (subst (λ (m : List ℕ). found table kind m ≡ Some number) named.1 is)).1
 ]
 
-kind_back : (line : Line) (number : ℕ) → FitsLine line → kind_of_op (op_of_verb line.spoken.verb number line.spoken.argument) ≡ kind_of_verb line.spoken.verb
-kind_back line number fits = sym (own_kind (op_of_verb line.spoken.verb number line.spoken.argument)) ∙ ap (λ (l : Line). kind_of_verb l.spoken.verb) (line_back line number fits)
-
 -- a line whose object the table has is that of a call
 pub call_read : (table : Table) (text : List ℕ) (line : Line) (mark rest : List ℕ) (number : ℕ) → IsKept table → IsLineThen text line mark rest
     → found table (kind_of_verb line.spoken.verb) mark ≡ Some number → IsCallThen table text (call_of line number) rest
 call_read table text line mark rest number kept is has =
-    let op = op_of_verb line.spoken.verb number line.spoken.argument in
-    let at : number_of op ≡ number = number_back line.spoken.verb number line.spoken.argument in
+    let op = op_of line.spoken.verb number line.spoken.argument in
+    let at : number_of op ≡ number = number_given line.spoken.verb number line.spoken.argument in
     let words : mark_of (names_in table) op ≡ mark = ap (name_words (names_in table)) at ∙ found_mark table (kind_of_verb line.spoken.verb) mark number kept is.marked has in
     record {
       written = ap (λ (t : List ℕ). t ++ rest) (call_marked (names_in table) (call_of line number) ∙ ap (λ (l : Line). line_text l (mark_of (names_in table) op)) (line_back line number is.fits) ∙ ap (line_text line) words) ∙ is.written;
       fits = call_fits line number is.fits;
       found = (
         subst (λ (n : ℕ). n ≤ length (names_in table)) (sym at) (found_within table (kind_of_verb line.spoken.verb) mark number kept is.marked has),
-        ap (λ k. found table k (mark_of (names_in table) op)) (kind_back line number is.fits) ∙ ap (found table (kind_of_verb line.spoken.verb)) words ∙ has ∙ ap Some (sym at),
+        ap (λ k. found table k (mark_of (names_in table) op)) (kind_given line.spoken.verb number line.spoken.argument) ∙ ap (found table (kind_of_verb line.spoken.verb)) words ∙ has ∙ ap Some (sym at),
       );
     }
 
@@ -96,7 +95,7 @@ module _ (old new : Table) (kept : IsKept old) (extends : Extends old new) where
     found_stays : IsFound new call.entry.op
     found_stays = (
       omega (arith, has.0, ap length extends.names, length-append (names_in old) extends.more),
-      ap (found new (kind_of_op call.entry.op)) mark_stays ∙ extends.numbers (kind_of_op call.entry.op) (mark_of (names_in old) call.entry.op) (number_of call.entry.op) has.1,
+      ap (found new (kind_of call.entry.op)) mark_stays ∙ extends.numbers (kind_of call.entry.op) (mark_of (names_in old) call.entry.op) (number_of call.entry.op) has.1,
     )
 
     line_stays : call_line (names_in new) call ≡ call_line (names_in old) call

@@ -1,14 +1,10 @@
--- Decimals of all numbers: their digits, and how a text is told apart into a decimal and what follows it.
+-- Decimals of all numbers: their digits, the first and the last of them.
 use Rattle.std.proofs.Common.{◌≡◌, ◌≢◌, ℕ, zero, suc, ◌+◌, ◌/◌, ◌%◌, ◌<◌, Bool, true, false, List, [], ◌∷◌, ◌++◌, get_or, refl, sym, ap, ◌∙◌, mod-lt, arith}
 use Rattle.std.specs.Prelude.{◌==◌, if◌then◌else◌}
-use Rattle.std.specs.List.{AllByRecursion}
 use Rattle.std.specs.Char.{is_ascii_digit}
 use Rattle.std.specs.Fmt.{decimal, digits, digits_onto, digit_glyph}
 use Rattle.std.proofs.lemmas.Bool.Decides.{nat_tests}
-use Rattle.decimals.specs.Texts.{BeginsNoDigit}
-
-abbrev pub Digits : List ℕ → Type 0
-Digits text = AllByRecursion (λ byte. is_ascii_digit byte ≡ true) text
+use Rattle.decimals.proofs.Decimals.{Digits}
 
 glyph_at : (d : ℕ) → d < 10 → digit_glyph false d ≡ 48 + d
 glyph_at d small = grind (arith, nat_tests)
@@ -75,16 +71,3 @@ begins_digit (x ∷ xs) rest some d = d.0
 -- a decimal begins with a digit
 pub decimal_begins : (n : ℕ) (rest : List ℕ) → is_ascii_digit (get_or (decimal n ++ rest) 0 0) ≡ true
 decimal_begins n rest = begins_digit (decimal n) rest (some_digits n) (decimal_digits n)
-
--- a text splits into digits and a rest that does not begin with a digit in one way only
-pub digits_apart : (xs ys r s : List ℕ) → Digits xs → Digits ys → BeginsNoDigit r → BeginsNoDigit s → xs ++ r ≡ ys ++ s → (xs ≡ ys) × (r ≡ s)
-digits_apart [] [] r s dx dy er es is = (refl, is)
-digits_apart [] (y ∷ ys) [] s dx dy er es is = cc
-digits_apart [] (y ∷ ys) (b ∷ r) s dx dy er es is = cc (dy.0)
-digits_apart (x ∷ xs) [] r [] dx dy er es is = cc
-digits_apart (x ∷ xs) [] r (b ∷ s) dx dy er es is = cc (dx.0)
-digits_apart (x ∷ xs) (y ∷ ys) r s dx dy er es is =
-    let head : x ≡ y = cc in
-    let tail : xs ++ r ≡ ys ++ s = cc in
-    let more = digits_apart xs ys r s dx.1 dy.1 er es tail in
-    (cc (more.0), more.1)

@@ -10,7 +10,9 @@ use Rattle.std.proofs.lemmas.List.{append_cancel_left}
 use Rattle.std.proofs.lemmas.Slice.Eq.{strip_prefix_is}
 use Rattle.decimals.specs.Texts.{BeginsNoDigit, IsDecimalThen}
 use Rattle.report_reader.specs.Code.Fields.{IsFieldThen}
-use Rattle.report_reader.proofs.Digits.{decimal_digits, digits_apart}
+use Rattle.std.specs.Char.{is_ascii_digit}
+use Rattle.decimals.proofs.Runs.{runs_apart}
+use Rattle.report_reader.proofs.Digits.{decimal_digits}
 
 some_words : (text words : List ℕ) (r : Option (Bor (List ℕ))) → MatchOption r ((rest : List ℕ) → text ≢ words ++ rest) (λ x. text ≡ words ++ x.now)
     → IfSome r (λ rest. words ++ rest.now ≡ text) × IfNone r ((rest : List ℕ) → words ++ rest ≡ text → ⊥)
@@ -35,7 +37,7 @@ no_field words most text behind starts none number rest is =
 
 -- two decimals at the front of one text are one, with one rest
 pub apart : (m n : ℕ) (r s : List ℕ) → BeginsNoDigit r → BeginsNoDigit s → decimal m ++ r ≡ decimal n ++ s → (decimal m ≡ decimal n) × (r ≡ s)
-apart m n r s ends ends' is = digits_apart (decimal m) (decimal n) r s (decimal_digits m) (decimal_digits n) ends ends' is
+apart m n r s ends ends' is = runs_apart is_ascii_digit (decimal m) (decimal n) r s (decimal_digits m) (decimal_digits n) ends ends' is
 
 -- the same behind words
 pub field_apart : (words : List ℕ) (m n : ℕ) (r s : List ℕ) → BeginsNoDigit r → BeginsNoDigit s → words ++ (decimal m ++ r) ≡ words ++ (decimal n ++ s) → (decimal m ≡ decimal n) × (r ≡ s)

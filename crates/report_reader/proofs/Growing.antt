@@ -9,7 +9,7 @@ use Rattle.job_names.specs.Names.{AreSpelled, is_letter, is_in_name, is_spelled,
 use Rattle.job_names.specs.declared.name.Name.{Name}
 use Rattle.sp_order.specs.Objects.{name_of_number}
 use Rattle.report_reader.specs.Code.Objects.{is_mark, names_in, number_in, found, IsKept, Extends}
-use Rattle.report_reader.specs.declared.object.Kind.{Kind}
+use Rattle.seq_objects.specs.declared.kind.Kind.{Kind}
 use Rattle.report_reader.specs.declared.table.Table.{Table}
 use Rattle.job_names.proofs.SameNames.{and_left, and_right}
 use Rattle.job_names.proofs.Spellings.{spelling_back, one_spelling}

@@ -1,13 +1,11 @@
 -- The table of a job, and the raw reports of a job.
 use Rattle.std.proofs.Common.{◌≡◌, ℕ, zero, suc, ◌-◌, ◌<◌, ◌≤◌, inl, inr, true, List, [], ◌∷◌, length, get_or, Some, refl, sym, ap, subst, ◌∙◌, arith}
 use Rattle.std.specs.Prelude.{IfOk, OnOk, Result, Ok, Err, Contains}
-use Rattle.seq_objects.specs.Batches.{ObjectKind, kind_of}
-use Rattle.seq_objects.specs.Batches as kinds
+use Rattle.seq_objects.specs.Parts.{kind_of}
 use Rattle.seq_objects.specs.Objects.{number_of}
 use Rattle.seq_objects.specs.Words.{name_words}
 use Rattle.seq_objects.specs.declared.act.Act.TheVariants.{Call}
 use Rattle.seq_objects.specs.declared.op.Op.{Op}
-use Rattle.seq_objects.specs.declared.op.Op.TheVariants as op
 use Rattle.seq_objects.proofs.Elements.{each_so}
 use Rattle.job_names.specs.Names.{AreSpelled, is_spelled}
 use Rattle.sp_order.specs.Jobs.{JobValue, IsJob}
@@ -18,58 +16,12 @@ use Rattle.batch_history.specs.declared.batch.Entry.{Entry}
 use Rattle.batch_history.specs.declared.report.Report.{Report}
 use Rattle.report_reader.specs.Raw.{HasOwnObject}
 use Rattle.report_reader.specs.Texts.{Named, HasText, HasNamedText, IsReading, IsNamedReading}
-use Rattle.report_reader.specs.Code.Objects.{kind_of_op, names_in, found, mark_of, IsKnown, IsFound, Extends, IsTableOf}
+use Rattle.report_reader.specs.Code.Objects.{names_in, found, mark_of, IsKnown, IsFound, Extends, IsTableOf}
 use Rattle.report_reader.specs.Code.Reading.{IsTableText, IsKnownText}
 use Rattle.report_reader.proofs.Calls.{words_at}
-use Rattle.report_reader.specs.declared.object.Kind.{Kind}
-use Rattle.report_reader.specs.declared.object.Kind.TheVariants.{Counter, Stack, Tree, Queue}
 use Rattle.report_reader.specs.declared.table.Table.{Table}
 use Rattle.report_reader.specs.declared.error.ReadReportErr.{ReadReportErr}
 use Rattle.report_reader.specs.declared.error.ReadReportErr.TheVariants.{NoReport, Memory}
-
--- the kind as contracts have it, and back
-kind_in : Kind → ObjectKind
-kind_in Counter = kinds.Counter
-kind_in Stack = kinds.Stack
-kind_in Tree = kinds.Tree
-kind_in Queue = kinds.Queue
-
-kind_from : ObjectKind → Kind
-kind_from kinds.Counter = Counter
-kind_from kinds.Stack = Stack
-kind_from kinds.Tree = Tree
-kind_from kinds.Queue = Queue
-
-into : (o : Op) → kind_in (kind_of_op o) ≡ kind_of o
-unfolding kind_in
-into (op.CounterAdd number addend) = refl
-into (op.Push number item) = refl
-into (op.Pop number) = refl
-into (op.TreeInsert number key) = refl
-into (op.TreeRemove number key) = refl
-into (op.TreeFind number key) = refl
-into (op.TreeNext number key) = refl
-into (op.PqInsert number item) = refl
-into (op.PqTake number) = refl
-
-from : (o : Op) → kind_from (kind_of o) ≡ kind_of_op o
-unfolding kind_from
-from (op.CounterAdd number addend) = refl
-from (op.Push number item) = refl
-from (op.Pop number) = refl
-from (op.TreeInsert number key) = refl
-from (op.TreeRemove number key) = refl
-from (op.TreeFind number key) = refl
-from (op.TreeNext number key) = refl
-from (op.PqInsert number item) = refl
-from (op.PqTake number) = refl
-
--- operations of one kind here are of one kind there
-pub to_kind : (a b : Op) → kind_of_op a ≡ kind_of_op b → kind_of a ≡ kind_of b
-to_kind a b same = sym (into a) ∙ ap kind_in same ∙ into b
-
-pub of_kind : (a b : Op) → kind_of a ≡ kind_of b → kind_of_op a ≡ kind_of_op b
-of_kind a b same = sym (from a) ∙ ap kind_from same ∙ from b
 
 spelled_at : (names : List (List ℕ)) (i : ℕ) → AreSpelled names → i < length names → is_spelled (get_or names i []) ≡ true
 spelled_at [] i spelled low = absurd (omega (arith, low))
@@ -84,20 +36,20 @@ module _ (job : JobValue) (table : Table) (is : IsTableOf job table) where
     called = λ some. (
         let name = name_of_number (names_in table) (number_of o) in
         let mark : mark_of (names_in table) o ≡ 58 ∷ name = words_at (names_in table) (number_of o) some in
-        let by = is.called (kind_of_op o) name (number_of o) (spelled_at (names_in table) (number_of o - 1) is.kept.spelled (omega (arith, some, has.0)))
-        (subst (λ (m : List ℕ). found table (kind_of_op o) m ≡ Some (number_of o)) mark has.1) in
-        record { by = by.0; among = by.1; number = by.2; kind = to_kind by.0 o by.3 });
+        let by = is.called (kind_of o) name (number_of o) (spelled_at (names_in table) (number_of o - 1) is.kept.spelled (omega (arith, some, has.0)))
+        (subst (λ (m : List ℕ). found table (kind_of o) m ≡ Some (number_of o)) mark has.1) in
+        record { by = by.0; among = by.1; number = by.2; kind = by.3 });
   }
 
-  known_call : (o by : Op) → Contains job.acts (Call by) → number_of by ≡ number_of o → kind_of by ≡ kind_of o → 0 < number_of o → IsKnown table (kind_of_op o) (mark_of job.names o)
+  known_call : (o by : Op) → Contains job.acts (Call by) → number_of by ≡ number_of o → kind_of by ≡ kind_of o → 0 < number_of o → IsKnown table (kind_of o) (mark_of job.names o)
   known_call o by among number kind some =
-      let has : found table (kind_of_op by) (mark_of job.names by) ≡ Some (number_of by) = is.all by among (omega (arith, some, number)) in
-      let at : found table (kind_of_op o) (mark_of job.names o) ≡ Some (number_of by) =
-      ap (λ k. found table k (mark_of job.names o)) (sym (of_kind by o kind)) ∙ ap (λ (n : ℕ). found table (kind_of_op by) (name_words job.names n)) (sym number) ∙ has in
+      let has : found table (kind_of by) (mark_of job.names by) ≡ Some (number_of by) = is.all by among (omega (arith, some, number)) in
+      let at : found table (kind_of o) (mark_of job.names o) ≡ Some (number_of by) =
+      ap (λ k. found table k (mark_of job.names o)) (sym kind) ∙ ap (λ (n : ℕ). found table (kind_of by) (name_words job.names n)) (sym number) ∙ has in
       inr (rw at refl)
 
-  known_at : (o : Op) (n : ℕ) → number_of o ≡ n → HasOwnObject job o → IsKnown table (kind_of_op o) (mark_of job.names o)
-  known_at o zero at own = subst (λ (n : ℕ). IsKnown table (kind_of_op o) (name_words job.names n)) (sym at) (inr refl)
+  known_at : (o : Op) (n : ℕ) → number_of o ≡ n → HasOwnObject job o → IsKnown table (kind_of o) (mark_of job.names o)
+  known_at o zero at own = subst (λ (n : ℕ). IsKnown table (kind_of o) (name_words job.names n)) (sym at) (inr refl)
   known_at o (suc n) at own =
       let some : 0 < number_of o = omega (arith, at) in
       let call = own.called some in
@@ -115,7 +67,7 @@ module _ (job : JobValue) (table : Table) (is : IsTableOf job table) where
       spelled = spelled;
       written = has.written;
     };
-    known = each_so (λ (entry : Entry). HasOwnObject job entry.op) (λ (entry : Entry). IsKnown table (kind_of_op entry.op) (mark_of job.names entry.op)) (λ entry own. known_at entry.op (number_of entry.op) refl own) (flat report.history) has.raw.objects;
+    known = each_so (λ (entry : Entry). HasOwnObject job entry.op) (λ (entry : Entry). IsKnown table (kind_of entry.op) (mark_of job.names entry.op)) (λ entry own. known_at entry.op (number_of entry.op) refl own) (flat report.history) has.raw.objects;
   }
 
   -- a report that was read by the table is a raw one of the job
@@ -155,7 +107,7 @@ alone_report table text report has = record {
 pub alone_known : (table : Table) (text : List ℕ) (named : Named) → table.grows ≡ true → HasNamedText text named → IsKnownText table text named
 alone_known table text named growing has = record {
   has = has;
-  known = each_so (λ (entry : Entry). number_of entry.op ≤ length named.names) (λ (entry : Entry). IsKnown table (kind_of_op entry.op) (mark_of named.names entry.op)) (λ entry low. inl growing) (flat named.report.history) has.numbers;
+  known = each_so (λ (entry : Entry). number_of entry.op ≤ length named.names) (λ (entry : Entry). IsKnown table (kind_of entry.op) (mark_of named.names entry.op)) (λ entry low. inl growing) (flat named.report.history) has.numbers;
 }
 
 pub alone_err : (text : List ℕ) (err : ReadReportErr) → (err ≡ NoReport → (named : Named) → HasNamedText text named → ⊥) → IsNamedReading text (Err err)

@@ -1,5 +1,6 @@
 mod Digits
 mod Fields
+mod Letters
 mod Marks
 mod Tables
 mod Growing

@@ -4,6 +4,7 @@ use Rattle.std.specs.Prelude.{IsSome, Contains, slice_get}
 use Rattle.std.specs.List.{AllByRecursion}
 use Rattle.std.proofs.lemmas.Option.{slice_get-get_or}
 use Rattle.std.proofs.lemmas.Bool.{cases_order}
+use Rattle.seq_objects.specs.Parts.{kind_of}
 use Rattle.seq_objects.specs.Objects.{number_of}
 use Rattle.seq_objects.specs.declared.act.Act.{Act}
 use Rattle.seq_objects.specs.declared.act.Act.TheVariants.{Work, Call}
@@ -12,12 +13,11 @@ use Rattle.job_names.specs.Names.{AreSpelled, is_spelled, name_of, spelling}
 use Rattle.job_names.specs.declared.name.Name.{Name}
 use Rattle.sp_order.specs.Jobs.{JobValue, IsJob}
 use Rattle.sp_order.specs.Objects.{number_in as number_of_act, AreByFirstUse, name_of_number}
-use Rattle.report_reader.specs.Code.Objects.{kind_of_op, names_in, number_in, found, mark_of, IsKept, Inserts, IsTableOf}
-use Rattle.report_reader.specs.declared.object.Kind.{Kind}
+use Rattle.report_reader.specs.Code.Objects.{names_in, number_in, found, mark_of, IsKept, Inserts, IsTableOf}
+use Rattle.seq_objects.specs.declared.kind.Kind.{Kind}
 use Rattle.report_reader.specs.declared.table.Table.{Table}
 use Rattle.report_reader.proofs.Calls.{words_at}
 use Rattle.job_names.proofs.Spellings.{one_spelling}
-use Rattle.report_reader.proofs.Jobs.{to_kind}
 
 -- no number is used but those used before and those to the count
 used_within : (used : ℕ) (numbers : List ℕ) (count : ℕ) → AreByFirstUse used numbers count → used ≤ count
@@ -36,14 +36,14 @@ pub record IsOwn (job : JobValue) (kind : Kind) (name : Name) (number : ℕ) : T
   pub by : Op
   pub among : Contains job.acts (Call by)
   pub numbered : number_of by ≡ number
-  pub own : kind_of_op by ≡ kind
+  pub own : kind_of by ≡ kind
   pub some : 0 < number
   pub named : name ≡ name_of (name_of_number job.names number)
 
 -- the table has the object of an act, if it is named
 abbrev pub IsNoted : JobValue → Table → Act → Type 0
 IsNoted job table (Work steps) = Unit {0}
-IsNoted job table (Call by) = 0 < number_of by → IsSome (number_in table (kind_of_op by) (name_of (name_of_number job.names (number_of by))))
+IsNoted job table (Call by) = 0 < number_of by → IsSome (number_in table (kind_of by) (name_of (name_of_number job.names (number_of by))))
 
 -- the table has the objects of these acts, and no others than those of the job
 pub record Noted (job : JobValue) (table : Table) (acts : List Act) : Type 0 where
@@ -58,11 +58,11 @@ noted_none job table names closed empty = record { names = names; closed = close
 some_there : (r s : Option ℕ) → s ≡ r → IsSome r → IsSome s
 some_there r s same some = subst (λ (o : Option ℕ). IsSome o) (sym same) some
 
-module _ (job : JobValue) (old new : Table) (op : Op) (among : Contains job.acts (Call op)) (some : 0 < number_of op) (ins : Inserts old new (kind_of_op op) (name_of (name_of_number job.names (number_of op))) (number_of op)) where
+module _ (job : JobValue) (old new : Table) (op : Op) (among : Contains job.acts (Call op)) (some : 0 < number_of op) (ins : Inserts old new (kind_of op) (name_of (name_of_number job.names (number_of op))) (number_of op)) where
   own_more : ((kind : Kind) (name : Name) (number : ℕ) → number_in old kind name ≡ Some number → IsOwn job kind name number) → (kind : Kind) (name : Name) (number : ℕ) → number_in new kind name ≡ Some number → IsOwn job kind name number
   own_more own kind name number is = elim (ins.others kind name) [
     | inl same ↦
-        let at : number_in new (kind_of_op op) (name_of (name_of_number job.names (number_of op))) ≡ Some number = subst (λ (k : Kind). number_in new k (name_of (name_of_number job.names (number_of op))) ≡ Some number) same.0 (subst (λ (n : Name). number_in new kind n ≡ Some number) same.1 is) in
+        let at : number_in new (kind_of op) (name_of (name_of_number job.names (number_of op))) ≡ Some number = subst (λ (k : Kind). number_in new k (name_of (name_of_number job.names (number_of op))) ≡ Some number) same.0 (subst (λ (n : Name). number_in new kind n ≡ Some number) same.1 is) in
         let numbered : number_of op ≡ number = cc (at, ins.own) in
         record {
           by = op;
@@ -77,13 +77,13 @@ module _ (job : JobValue) (old new : Table) (op : Op) (among : Contains job.acts
 
   stays_some : (kind : Kind) (name : Name) → IsSome (number_in old kind name) → IsSome (number_in new kind name)
   stays_some kind name has = elim (ins.others kind name) [
-    | inl same ↦ subst (λ (k : Kind). IsSome (number_in new k name)) (sym same.0) (subst (λ (n : Name). IsSome (number_in new (kind_of_op op) n)) (sym same.1) (some_there (Some (number_of op)) _ ins.own refl))
+    | inl same ↦ subst (λ (k : Kind). IsSome (number_in new k name)) (sym same.0) (subst (λ (n : Name). IsSome (number_in new (kind_of op) n)) (sym same.1) (some_there (Some (number_of op)) _ ins.own refl))
     | inr stays ↦ some_there (number_in old kind name) (number_in new kind name) stays has
   ]
 
   act_stays : (act : Act) → IsNoted job old act → IsNoted job new act
   act_stays (Work steps) has = tt
-  act_stays (Call by) has = λ some. stays_some (kind_of_op by) (name_of (name_of_number job.names (number_of by))) (has some)
+  act_stays (Call by) has = λ some. stays_some (kind_of by) (name_of (name_of_number job.names (number_of by))) (has some)
 
   all_more : (acts : List Act) → AllByRecursion (IsNoted job old) acts → AllByRecursion (IsNoted job new) (acts ++ Call op ∷ [])
   all_more [] has = ((λ some. some_there (Some (number_of op)) _ ins.own refl), tt)
@@ -122,7 +122,7 @@ module _ (job : JobValue) (table : Table) (is_job : IsJob job) (noted : Noted jo
         ));
   }
 
-  own_number : (by : Op) (number : ℕ) → Contains job.acts (Call by) → 0 < number_of by → IsOwn job (kind_of_op by) (name_of (name_of_number job.names (number_of by))) number → number_of by ≡ number
+  own_number : (by : Op) (number : ℕ) → Contains job.acts (Call by) → 0 < number_of by → IsOwn job (kind_of by) (name_of (name_of_number job.names (number_of by))) number → number_of by ≡ number
   own_number by number among some own = elim (cases_order (number_of by) number) [
     | inl same ↦ same
     | inr apart ↦ absurd (differ (λ same. elim apart [ inl below ↦ omega (arith, same, below) | inr above ↦ omega (arith, same, above) ]))
@@ -133,17 +133,17 @@ module _ (job : JobValue) (table : Table) (is_job : IsJob job) (noted : Noted jo
           let u = place_of_act job.acts (Call by) among in
           let v = place_of_act job.acts (Call own.by) own.among in
           let names : name_of_number job.names (number_of by) ≡ name_of_number job.names number = one_spelling (name_of_number job.names (number_of by)) (name_of_number job.names number) own.named in
-          is_job.objects.apart u.0 v.0 by own.by u.1 v.1 some (omega (arith, own.some, own.numbered)) (to_kind by own.by (sym own.own)) (λ same. apart (same ∙ own.numbered))
+          is_job.objects.apart u.0 v.0 by own.by u.1 v.1 some (omega (arith, own.some, own.numbered)) (sym own.own) (λ same. apart (same ∙ own.numbered))
           (names ∙ ap (name_of_number job.names) (sym own.numbered))
 
-  found_own : (by : Op) → Contains job.acts (Call by) → 0 < number_of by → (r : Option ℕ) → number_in table (kind_of_op by) (name_of (name_of_number job.names (number_of by))) ≡ r → IsSome r → r ≡ Some (number_of by)
+  found_own : (by : Op) → Contains job.acts (Call by) → 0 < number_of by → (r : Option ℕ) → number_in table (kind_of by) (name_of (name_of_number job.names (number_of by))) ≡ r → IsSome r → r ≡ Some (number_of by)
   found_own by among some None is has = cc (has)
-  found_own by among some (Some number) is has = ap Some (sym (own_number by number among some (noted.own (kind_of_op by) (name_of (name_of_number job.names (number_of by))) number is)))
+  found_own by among some (Some number) is has = ap Some (sym (own_number by number among some (noted.own (kind_of by) (name_of (name_of_number job.names (number_of by))) number is)))
 
-  all_found : (by : Op) → Contains job.acts (Call by) → 0 < number_of by → found table (kind_of_op by) (mark_of job.names by) ≡ Some (number_of by)
+  all_found : (by : Op) → Contains job.acts (Call by) → 0 < number_of by → found table (kind_of by) (mark_of job.names by) ≡ Some (number_of by)
   all_found by among some =
-      ap (found table (kind_of_op by)) (words_at job.names (number_of by) some)
-      ∙ found_own by among some (number_in table (kind_of_op by) (name_of (name_of_number job.names (number_of by)))) refl (contained (IsNoted job table) job.acts (Call by) noted.all among some)
+      ap (found table (kind_of by)) (words_at job.names (number_of by) some)
+      ∙ found_own by among some (number_in table (kind_of by) (name_of (name_of_number job.names (number_of by)))) refl (contained (IsNoted job table) job.acts (Call by) noted.all among some)
 
   pub table_of : IsTableOf job table
   table_of = record {
@@ -191,13 +191,13 @@ step_work job table i low not noted =
     work (Call op) is = absurd (not op is)
 
 pub step_call : (job : JobValue) (old new : Table) (i : ℕ) (op : Op) → i < length job.acts → get_or job.acts i (Work 0) ≡ Call op → (number_of op ≡ 0 → new ≡ old)
-    → (0 < number_of op → Inserts old new (kind_of_op op) (name_of (name_of_number (names_in old) (number_of op))) (number_of op)) → Noted job old (take i job.acts) → Noted job new (take (i + 1) job.acts)
+    → (0 < number_of op → Inserts old new (kind_of op) (name_of (name_of_number (names_in old) (number_of op))) (number_of op)) → Noted job old (take i job.acts) → Noted job new (take (i + 1) job.acts)
 step_call job old new i op low is unnamed named noted =
     subst (Noted job new) (sym (take_more job.acts i (Work 0) low ∙ ap (λ (act : Act). take i job.acts ++ act ∷ []) is)) (elim (cases_order 0 (number_of op)) [
       | inl none ↦ subst (λ (t : Table). Noted job t (take i job.acts ++ Call op ∷ [])) (sym (unnamed (sym none))) (noted_push job old (take i job.acts) (Call op) noted (λ some. absurd (omega (arith, some, none))))
       | inr apart ↦ elim apart [
         | inl some ↦ noted_named job old new op (among_at job.acts i (Call op) low is) some
-            (subst (λ (names : List (List ℕ)). Inserts old new (kind_of_op op) (name_of (name_of_number names (number_of op))) (number_of op)) noted.names (named some)) (take i job.acts) noted
+            (subst (λ (names : List (List ℕ)). Inserts old new (kind_of op) (name_of (name_of_number names (number_of op))) (number_of op)) noted.names (named some)) (take i job.acts) noted
         | inr below ↦ absurd (omega (arith, below))
       ]
     ])

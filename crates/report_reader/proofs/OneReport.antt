@@ -3,7 +3,9 @@ use Rattle.std.proofs.Common.{◌≡◌, ◌≢◌, ℕ, zero, suc, ◌<◌, ◌
 use Rattle.std.specs.Prelude.{IfOk, Result, Ok, Err}
 use Rattle.std.specs.List.{AllByRecursion}
 use Rattle.std.proofs.lemmas.Bool.{cases_order}
-use Rattle.seq_objects.specs.Batches.{kind_of}
+use Rattle.seq_objects.specs.Parts.{kind_of, op_of, verb_of}
+use Rattle.seq_objects.specs.Verbs.{kind_of_verb}
+use Rattle.seq_objects.proofs.Parts.{whole as whole_op}
 use Rattle.seq_objects.specs.Objects.{argument_of, number_of}
 use Rattle.seq_objects.specs.Words.{op_words, name_words}
 use Rattle.seq_objects.specs.declared.act.Act.TheVariants.{Call}
@@ -18,13 +20,13 @@ use Rattle.batch_history.specs.declared.report.Report.{Report}
 use Rattle.report_reader.specs.Raw.{FitsEntry, HasOwnObject}
 use Rattle.report_reader.specs.Texts.{HasText, IsReading, Worded, worded}
 use Rattle.report_reader.specs.Code.Objects.{is_mark, mark_of}
-use Rattle.report_reader.specs.Code.Operations.{op_of_verb, kind_of_verb, IsOpThen}
+use Rattle.report_reader.specs.Code.Operations.{IsOpThen}
 use Rattle.report_reader.specs.declared.error.ReadReportErr.{ReadReportErr}
 use Rattle.report_reader.specs.declared.error.ReadReportErr.TheVariants.{NoReport, Memory}
 use Rattle.report_reader.specs.declared.operation.Spoken.{Spoken}
-use Rattle.report_reader.proofs.Operations.{verb_of, spoken_of, own_kind, words_parts, op_back, argument_fits, one_op}
+use Rattle.report_reader.proofs.Operations.{spoken_of, words_parts, argument_fits, one_op}
 use Rattle.report_reader.proofs.Calls.{words_at, number_marked}
-use Rattle.report_reader.proofs.Jobs.{to_kind, named_text}
+use Rattle.report_reader.proofs.Jobs.{named_text}
 use Rattle.report_reader.proofs.Alike.{alike}
 use Rattle.seq_objects.proofs.Elements.{each_left, each_right}
 use Rattle.report_reader.proofs.Noting.{place_of_act}
@@ -72,9 +74,9 @@ module _ (job : JobValue) (is_job : IsJob job) where
         argument = argument_fits o' fits';
       } in
       let same = one_op text (spoken_of o) (spoken_of o') (mark_of job.names o) (mark_of job.names o') [] [] at at' in
-      let kind : kind_of o ≡ kind_of o' = to_kind o o' (sym (own_kind o) ∙ ap (λ (s : Spoken). kind_of_verb s.verb) same.0 ∙ own_kind o') in
+      let kind : kind_of o ≡ kind_of o' = ap (λ (s : Spoken). kind_of_verb s.verb) same.0 in
       let number : number_of o ≡ number_of o' = same_number o o' own own' kind (number_of o) (number_of o') refl refl same.1 in
-      sym (op_back o) ∙ ap (λ (s : Spoken). op_of_verb s.verb (number_of o) s.argument) same.0 ∙ ap (λ (n : ℕ). op_of_verb (verb_of o') n (argument_of o')) number ∙ op_back o'
+      sym (whole_op o) ∙ ap (λ (s : Spoken). op_of s.verb (number_of o) s.argument) same.0 ∙ ap (λ (n : ℕ). op_of (verb_of o') n (argument_of o')) number ∙ whole_op o'
 
   same_entry : (l l' w w' : ℕ) (o o' : Op) (r r' : Reply) → l ≡ l' → w ≡ w' → o ≡ o' → r ≡ r'
       → ◌≡◌ {A = Entry} (record { leaf = l; worker = w; op = o; reply = r }) (record { leaf = l'; worker = w'; op = o'; reply = r' })

@@ -13,7 +13,7 @@ use Rattle.seq_objects.specs.declared.reply.Reply.TheVariants.{Number, Unit as D
 use Rattle.report_reader.specs.Code.Replies.{IsWord, IsReplyThen}
 use Rattle.report_reader.proofs.Digits.{decimal_begins}
 use Rattle.report_reader.proofs.Fields.{big, apart}
-use Rattle.decimals.proofs.Runs.{one_way}
+use Rattle.decimals.proofs.Decimals.{one_way}
 
 -- the word that begins with this byte
 word_with : ℕ → Reply

@@ -1,10 +1,10 @@
 -- What a text tells of the reports that have it.
 use Rattle.std.proofs.Common.{◌≡◌, ◌≢◌, ℕ, ◌+◌, ◌<◌, ◌≤◌, ◌^◌, inr, true, List, [], ◌∷◌, ◌++◌, length, map, refl, sym, ap, subst, ◌∙◌, append_assoc, length-append, arith}
-use Rattle.std.specs.Prelude.{IsSome}
 use Rattle.std.specs.List.{flat_map, AllByRecursion}
 use Rattle.std.specs.Fmt.{decimal}
 use Rattle.std.proofs.lemmas.Fmt.{decimal_injective}
 use Rattle.std.proofs.lemmas.List.{length-map, map-append}
+use Rattle.seq_objects.specs.Parts.{kind_of}
 use Rattle.seq_objects.specs.Objects.{number_of}
 use Rattle.seq_objects.proofs.Elements.{each_so}
 use Rattle.batch_history.specs.Book.{flat}
@@ -13,19 +13,17 @@ use Rattle.batch_history.specs.declared.batch.Entry.{Entry}
 use Rattle.batch_history.specs.declared.row.Row.{Row}
 use Rattle.batch_history.specs.declared.report.Report.{Report}
 use Rattle.report_reader.specs.Texts.{Named}
-use Rattle.report_reader.specs.Code.Objects.{is_mark, kind_of_op, names_in, found, mark_of, IsKept, IsKnown, IsFound}
-use Rattle.report_reader.specs.Code.Operations.{kind_of_verb}
+use Rattle.report_reader.specs.Code.Objects.{is_mark, names_in, mark_of, IsKept, IsKnown, IsFound}
 use Rattle.report_reader.specs.Code.Lines.{IsHeadThen, AreCallsThen, AreRowsOf, call_line}
 use Rattle.report_reader.specs.Code.Groups.{AreCallsOf, numbered_batch, numbered_book}
 use Rattle.report_reader.specs.Code.Reading.{IsTableText, IsKnownText}
-use Rattle.report_reader.specs.declared.object.Kind.{Kind}
+use Rattle.seq_objects.specs.declared.kind.Kind.{Kind}
 use Rattle.report_reader.specs.declared.head.Head.{Head}
 use Rattle.report_reader.specs.declared.call.Line.{Line}
 use Rattle.report_reader.specs.declared.call.Numbered.{Numbered}
 use Rattle.report_reader.specs.declared.table.Table.{Table}
 use Rattle.report_reader.proofs.Heads.{heads_apart}
 use Rattle.report_reader.proofs.Rows.{one_list, few_rows}
-use Rattle.report_reader.proofs.Operations.{verb_of, own_kind}
 use Rattle.report_reader.proofs.Calls.{number_marked}
 use Rattle.report_reader.proofs.Books.{told, AreLinesThen, calls_way, rows_no_line, book_numbered, call_count, few_batches, few_calls, book_fits, book_entries, book_all, book_every}
 use Rattle.report_reader.proofs.Groups.{one_book}
@@ -95,8 +93,8 @@ own_lines table text calls rest kept are = record {
   fits = are.fits;
   marked = each_so (λ (call : Numbered). IsFound table call.entry.op) (λ (call : Numbered). is_mark (mark_of (names_in table) call.entry.op) ≡ true)
       (λ call has. number_marked (names_in table) (number_of call.entry.op) kept.spelled has.0) calls are.found;
-  known = each_so (λ (call : Numbered). IsFound table call.entry.op) (λ (call : Numbered). IsKnown table (kind_of_verb (verb_of call.entry.op)) (mark_of (names_in table) call.entry.op))
-      (λ call has. inr (subst (λ k. IsSome (found table k (mark_of (names_in table) call.entry.op))) (sym (own_kind call.entry.op)) (rw has.1 refl))) calls are.found;
+  known = each_so (λ (call : Numbered). IsFound table call.entry.op) (λ (call : Numbered). IsKnown table (kind_of call.entry.op) (mark_of (names_in table) call.entry.op))
+      (λ call has. inr (rw has.1 refl)) calls are.found;
   ends = are.ends;
 }
 
@@ -136,9 +134,7 @@ module _ {table : Table} {text : List ℕ} {named : Named} (is : IsKnownText tab
     marked = book_all (λ (entry : Entry). is_mark (mark_of named.names entry.op) ≡ true) 0 named.report.history
         (each_so (λ (entry : Entry). number_of entry.op ≤ length named.names) (λ (entry : Entry). is_mark (mark_of named.names entry.op) ≡ true)
         (λ entry low. number_marked named.names (number_of entry.op) is.has.spelled low) (flat named.report.history) is.has.numbers);
-    known = book_all (λ (entry : Entry). IsKnown table (kind_of_verb (verb_of entry.op)) (mark_of named.names entry.op)) 0 named.report.history
-        (each_so (λ (entry : Entry). IsKnown table (kind_of_op entry.op) (mark_of named.names entry.op)) (λ (entry : Entry). IsKnown table (kind_of_verb (verb_of entry.op)) (mark_of named.names entry.op))
-        (λ entry known. subst (λ k. IsKnown table k (mark_of named.names entry.op)) (sym (own_kind entry.op)) known) (flat named.report.history) is.known);
+    known = book_all (λ (entry : Entry). IsKnown table (kind_of entry.op) (mark_of named.names entry.op)) 0 named.report.history is.known;
     ends = λ line mark more read known. rows_no_line named.report.rows line mark more read.written;
   }
 
@@ -210,6 +206,6 @@ report_read {table = table} {text = text} {head = head} {rest = rest} {more = mo
 pub known_text : (old new : Table) (text : List ℕ) (named : Named) → ((kind : Kind) (mark : List ℕ) → IsKnown old kind mark → IsKnown new kind mark) → IsKnownText old text named → IsKnownText new text named
 known_text old new text named stays is = record {
   has = is.has;
-  known = each_so (λ (entry : Entry). IsKnown old (kind_of_op entry.op) (mark_of named.names entry.op)) (λ (entry : Entry). IsKnown new (kind_of_op entry.op) (mark_of named.names entry.op))
-      (λ entry known. stays (kind_of_op entry.op) (mark_of named.names entry.op) known) (flat named.report.history) is.known;
+  known = each_so (λ (entry : Entry). IsKnown old (kind_of entry.op) (mark_of named.names entry.op)) (λ (entry : Entry). IsKnown new (kind_of entry.op) (mark_of named.names entry.op))
+      (λ entry known. stays (kind_of entry.op) (mark_of named.names entry.op) known) (flat named.report.history) is.known;
 }

@@ -10,7 +10,7 @@ use Rattle.batch_history.specs.Text.{head_line, entry_line}
 use Rattle.batch_history.specs.declared.row.Row.{Row}
 use Rattle.report_reader.specs.Stops.{may_follow, IsCallLine, IsRowLine, Follows, HasHead}
 use Rattle.report_reader.specs.Code.Objects.{mark_of}
-use Rattle.report_reader.specs.Code.Operations.{op_of_verb}
+use Rattle.seq_objects.specs.Parts.{op_of}
 use Rattle.report_reader.specs.Code.Lines.{IsHeadThen, line_text, IsLineThen, call_of, IsRowThen}
 use Rattle.report_reader.specs.declared.stop.Before.{Before}
 use Rattle.report_reader.specs.declared.stop.Before.TheVariants as before
@@ -18,7 +18,7 @@ use Rattle.report_reader.specs.declared.head.Head.{Head}
 use Rattle.report_reader.specs.declared.call.Line.{Line}
 use Rattle.report_reader.specs.declared.call.Numbered.{Numbered}
 use Rattle.report_reader.proofs.Growing.{mark_parts}
-use Rattle.report_reader.proofs.Operations.{number_back}
+use Rattle.seq_objects.proofs.Parts.{number_given}
 use Rattle.report_reader.proofs.CallLines.{place_from, line_whole, line_of, call_marked, call_fits, line_back, line_at, one_line}
 use Rattle.report_reader.proofs.Calls.{number_marked}
 use Rattle.report_reader.proofs.Books.{long_call}
@@ -29,8 +29,8 @@ use Rattle.report_reader.proofs.Rows.{shorter as row_shorter}
 with_number : {text : List ℕ} {line : Line} {mark rest : List ℕ} → IsLineThen text line mark rest → (names : List (List ℕ)) (number : ℕ) → AreSpelled names → number ≤ length names
     → name_words names number ≡ mark → IsCallLine text line.batch line.place rest
 with_number {text = text} {line = line} {mark = mark} {rest = rest} is names number spelled low words =
-    let op = op_of_verb line.spoken.verb number line.spoken.argument in
-    let at : number_of op ≡ number = number_back line.spoken.verb number line.spoken.argument in
+    let op = op_of line.spoken.verb number line.spoken.argument in
+    let at : number_of op ≡ number = number_given line.spoken.verb number line.spoken.argument in
     let marked : mark_of names op ≡ mark = ap (name_words names) at ∙ words in
     record {
       names = names;

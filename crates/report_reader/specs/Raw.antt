@@ -1,6 +1,7 @@
 -- Raw reports: reports whose numbers fit, on objects that a job calls. A raw report need not be lawful for the job.
 use Rattle.std.specs.Prelude.{◌≡◌, ◌≢◌, ◌<◌, ◌≤◌, ◌^◌, List, [], length, Contains}
 use Rattle.std.specs.List.{AllByRecursion}
+use Rattle.limits.specs.declared.TheConstants.{MOST_WORKERS}
 use Rattle.seq_objects.specs.Objects.{argument_of, number_of, value_of}
 use Rattle.seq_objects.specs.Batches.{kind_of}
 use Rattle.seq_objects.specs.declared.op.Op.{Op}
@@ -27,10 +28,11 @@ pub record FitsRow (row : Row) : Type 0 where
   pub end : row.end < 2 ^ 64
   pub value : row.value < 2 ^ 64
 
--- The report states 1 to 32 workers, has no empty batch, and the numbers of its entries and rows fit.
+-- The report states at least one worker and no more than the most, has no empty batch, and the numbers of its entries
+-- and rows fit.
 pub record FitsTypes (report : Report) : Type 0 where
   pub some : 1 ≤ report.workers
-  pub few : report.workers ≤ 32
+  pub few : report.workers ≤ MOST_WORKERS
   pub batches : AllByRecursion (λ batch. batch ≢ []) report.history
   pub entries : AllByRecursion FitsEntry (flat report.history)
   pub rows : AllByRecursion FitsRow report.rows

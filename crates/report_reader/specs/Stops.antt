@@ -1,6 +1,7 @@
 -- The line at which a text stops being that of a report: the first that cannot stand behind those before it. It is said
 -- of single lines, whatever the names of objects are.
 use Rattle.std.specs.Prelude.{◌≡◌, ◌≢◌, ℕ, suc, ◌+◌, ◌<◌, ◌≤◌, ◌^◌, Bool, false, ◌&&◌, ◌||◌, ◌==◌, IsTrue, List, [], ◌++◌, length}
+use Rattle.limits.specs.declared.TheConstants.{MOST_WORKERS}
 use Rattle.seq_objects.specs.Objects.{number_of}
 use Rattle.job_names.specs.Names.{AreSpelled}
 use Rattle.batch_history.specs.Text.{head_line, entry_line, row_line}
@@ -53,7 +54,7 @@ pub record HasLines (text : List ℕ) (count : ℕ) (rest : List ℕ) : Type 0 w
   pub are : AreLines text count last rest
   pub ends : (next : Before) (left : List ℕ) → Follows last rest next left → ⊥
 
--- the text is a head line with 1 to 32 workers, and then the rest
+-- the text is a head line with at least one worker and no more than the most, and then the rest
 pub record HasHead (text rest : List ℕ) : Type 0 where
   pub workers : ℕ
   pub leaves : ℕ
@@ -61,7 +62,7 @@ pub record HasHead (text rest : List ℕ) : Type 0 where
   pub batches : ℕ
   pub written : head_line workers leaves calls batches ++ rest ≡ text
   pub some : 1 ≤ workers
-  pub few : workers ≤ 32
+  pub few : workers ≤ MOST_WORKERS
   pub leaves_fit : leaves < 2 ^ 64
   pub calls_fit : calls < 2 ^ 64
   pub batches_fit : batches < 2 ^ 64

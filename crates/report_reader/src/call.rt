@@ -1,16 +1,16 @@
 //! The lines of calls.
 ghost use Rattle.std.specs.Prelude.{◌≡◌, ℕ, List, IfSome, IfNone, IfOk, OnOk};
+ghost use Rattle.seq_objects.specs.Verbs.{kind_of_verb};
 ghost use Rattle.report_reader.specs.Code.Lines.{IsLineThen, IsCallThen, AreCallsThen, call_of};
 ghost use Rattle.report_reader.specs.Code.Objects.{IsKept, IsKnown, Extends};
-ghost use Rattle.report_reader.specs.Code.Operations.{kind_of_verb};
 ghost use Rattle.report_reader.specs.declared.call.Line.{Line as LineOf};
 
-use crate::operation::{Spoken, op_of_verb, read_op};
+use crate::operation::{Spoken, read_op};
 use crate::reply::read_reply;
 use crate::table::Table;
 use crate::words::{read_field, read_words};
 use batch_history::Entry;
-use seq_objects::Reply;
+use seq_objects::{Op, Reply};
 use std::alloc::{AllocError, Global};
 
 /// The line of a call, apart from the name of its object.
@@ -40,7 +40,7 @@ impl Line {
         let entry = Entry {
             leaf: self.leaf,
             worker: self.worker,
-            op: op_of_verb(self.spoken.verb, number, self.spoken.argument),
+            op: Op::of(self.spoken.verb, number, self.spoken.argument),
             reply: self.reply,
         };
         Numbered {

@@ -4,6 +4,7 @@ ghost use Rattle.report_reader.specs.Code.Lines.{IsHeadThen};
 ghost use Rattle.report_reader.specs.declared.head.Head.{Head};
 
 use crate::words::{read_field, read_words};
+use limits::MOST_WORKERS;
 
 /// What the head line states: the number of workers, and how many rows, calls and batches follow.
 #[derive(Clone, Copy)]
@@ -29,7 +30,7 @@ pub(crate) fn read_head(text: &[u8], most: u64) -> Option<(Head, &[u8])>
     ensures some { IfSome result (λ read. IsHeadThen most text.now read.0 read.1.now) }
     ensures none { IfNone result ((head : Head) (rest : List ℕ) → IsHeadThen most text.now head rest → ⊥) }
 {
-    let (workers, rest) = read_field(text, b"workers ", 32)?;
+    let (workers, rest) = read_field(text, b"workers ", MOST_WORKERS as u64)?;
     if workers == 0 {
         return None;
     }

@@ -1,52 +1,24 @@
 //! Objects as lines tell them: a kind word, and a mark behind it that is empty or a colon and a name.
-ghost use Rattle.std.specs.Prelude.{◌≡◌, ◌++◌, ◌==◌, not, ℕ, List, IfSome, IfNone};
+ghost use Rattle.std.specs.Prelude.{◌≡◌, ℕ, List, IfSome, IfNone};
 ghost use Rattle.std.specs.List.{prefix_len};
-ghost use Rattle.report_reader.specs.Code.Objects.{kind_of_op, kind_text, is_mark, IsMarkThen};
-ghost use Rattle.report_reader.specs.declared.object.Kind.{Kind as KindOf};
+ghost use Rattle.seq_objects.specs.Verbs.{kind_text};
+ghost use Rattle.seq_objects.specs.declared.kind.Kind.{Kind as KindOf};
+ghost use Rattle.report_reader.specs.Code.Fields.{IsLettersThen};
+ghost use Rattle.report_reader.specs.Code.Objects.{is_mark, is_no_blank, IsMarkThen};
 
-use crate::words::read_words;
+use crate::words::letter_run;
 use job_names::is_spelled;
-use seq_objects::Op;
-
-/// The kinds of the shared objects.
-#[derive(Clone, Copy)]
-pub(crate) enum Kind {
-    Counter,
-    Stack,
-    Tree,
-    Queue,
-}
-
-/// The kind of the object that an operation is on.
-pub(crate) fn kind_of(op: Op) -> Kind
-    ensures { result ≡ kind_of_op op }
-{
-    match op {
-        Op::CounterAdd(..) => Kind::Counter,
-        Op::Push(..) | Op::Pop(_) => Kind::Stack,
-        Op::TreeInsert(..) | Op::TreeRemove(..) | Op::TreeFind(..) | Op::TreeNext(..) => Kind::Tree,
-        Op::PqInsert(..) | Op::PqTake(_) => Kind::Queue,
-    }
-}
+use seq_objects::Kind;
 
 /// The kind whose word the text begins with, and the rest behind it.
 pub(crate) fn read_kind(text: &[u8]) -> Option<(Kind, &[u8])>
-    ensures some { IfSome result (λ read. kind_text read.0 ++ read.1.now ≡ text.now) }
-    ensures none { IfNone result ((kind : KindOf) (rest : List ℕ) → kind_text kind ++ rest ≡ text.now → ⊥) }
+    ensures some { IfSome result (λ read. IsLettersThen (kind_text read.0) text.now read.1.now) }
+    ensures none { IfNone result ((kind : KindOf) (rest : List ℕ)
+        → IsLettersThen (kind_text kind) text.now rest → ⊥) }
 {
-    if let Some(rest) = read_words(text, b"counter") {
-        return Some((Kind::Counter, rest));
-    }
-    if let Some(rest) = read_words(text, b"stack") {
-        return Some((Kind::Stack, rest));
-    }
-    if let Some(rest) = read_words(text, b"tree") {
-        return Some((Kind::Tree, rest));
-    }
-    if let Some(rest) = read_words(text, b"queue") {
-        return Some((Kind::Queue, rest));
-    }
-    None
+    let (letters, rest) = text.split_at(letter_run(text));
+    let kind = Kind::of_text(letters)?;
+    Some((kind, rest))
 }
 
 /// Whether this is empty or a colon and a name.
@@ -61,7 +33,7 @@ fn is_mark(mark: &[u8]) -> bool
 
 /// The length of the front of the text up to a blank.
 fn until_blank(text: &[u8]) -> usize
-    ensures { result ≡ prefix_len (λ (byte : ℕ). not (byte == 32)) text.now }
+    ensures { result ≡ prefix_len is_no_blank text.now }
 {
     text.iter().take_while(|byte| **byte != b' ').count()
 }

@@ -1,27 +1,23 @@
 //! The numbers of named objects, by their kinds and names.
 ghost use Rattle.std.specs.Prelude.{◌≡◌, ◌+◌, ◌<◌, ◌≤◌, ◌⊎◌, ◌++◌, ◌∷◌, true, false, [], length, None, Some, IfOk, IfNone, OnOk};
 ghost use Rattle.job_names.specs.Names.{AreSpelled, name_of};
-ghost use Rattle.seq_objects.specs.Objects.{number_of};
+ghost use Rattle.seq_objects.specs.Parts.{kind_of, number_of};
+ghost use Rattle.seq_objects.specs.declared.kind.Kind.{Kind as KindOf};
 ghost use Rattle.sp_order.specs.Objects.{name_of_number};
 ghost use Rattle.job_names.specs.declared.name.Name.{Name as NameOf};
-ghost use Rattle.report_reader.specs.declared.object.Kind.{Kind as KindOf};
-ghost use Rattle.report_reader.specs.Code.Objects.{is_mark, kind_of_op, names_in, number_in, found, IsKept, Inserts, Extends, IsTableOf};
+ghost use Rattle.report_reader.specs.Code.Objects.{is_mark, names_in, number_in, found, IsKept, Inserts, Extends, IsTableOf};
 
-use crate::object::{Kind, kind_of};
 use indexmap::IndexMap;
 use job_names::{Name, name_of};
-use seq_objects::{Act, Op};
+use seq_objects::{Act, Kind, Op};
 use sp_order::Job;
 use std::alloc::{AllocError, Global};
 
-/// The numbers of the objects of each kind, by their names, and the names by their numbers, from 1. A table that grows
-/// numbers each name that it has not yet.
+/// The numbers of the objects, by their kinds and names, and the names by their numbers, from 1. A table that grows
+/// numbers each object that it has not yet.
 #[derive(Drop)]
 pub(crate) struct Table {
-    counters: IndexMap<Name, u32>,
-    stacks: IndexMap<Name, u32>,
-    trees: IndexMap<Name, u32>,
-    queues: IndexMap<Name, u32>,
+    numbers: IndexMap<(Kind, Name), u32>,
     names: Vec<Name>,
     grows: bool,
 }
@@ -35,10 +31,7 @@ impl Table {
         ensures grows { result.grows ≡ grows }
     {
         Table {
-            counters: IndexMap::new(alloc),
-            stacks: IndexMap::new(alloc),
-            trees: IndexMap::new(alloc),
-            queues: IndexMap::new(alloc),
+            numbers: IndexMap::new(alloc),
             names: Vec::new(alloc),
             grows,
         }
@@ -48,25 +41,14 @@ impl Table {
     fn get(&self, kind: Kind, name: Name) -> Option<u32>
         ensures { result ≡ number_in self.now kind name }
     {
-        let numbers = match kind {
-            Kind::Counter => &self.counters,
-            Kind::Stack => &self.stacks,
-            Kind::Tree => &self.trees,
-            Kind::Queue => &self.queues,
-        };
-        numbers.get(&name).copied()
+        self.numbers.get(&(kind, name)).copied()
     }
 
     /// Gives the object of this kind with this name a number.
     fn insert(&mut self, kind: Kind, name: Name, number: u32) -> Result<(), AllocError>
         ensures { OnOk result (Inserts self.old self.new kind name number) }
     {
-        match kind {
-            Kind::Counter => self.counters.insert(name, number)?,
-            Kind::Stack => self.stacks.insert(name, number)?,
-            Kind::Tree => self.trees.insert(name, number)?,
-            Kind::Queue => self.queues.insert(name, number)?,
-        };
+        self.numbers.insert((kind, name), number)?;
         Ok(())
     }
 
@@ -75,7 +57,7 @@ impl Table {
         requires within { number_of op ≤ length (names_in self.old) }
         requires spelled { AreSpelled (names_in self.old) }
         ensures unnamed { OnOk result (number_of op ≡ 0 → self.new ≡ self.old) }
-        ensures named { OnOk result (0 < number_of op → Inserts self.old self.new (kind_of_op op)
+        ensures named { OnOk result (0 < number_of op → Inserts self.old self.new (kind_of op)
             (name_of (name_of_number (names_in self.old) (number_of op))) (number_of op)) }
     {
         let number = op.number();
@@ -83,7 +65,7 @@ impl Table {
             return Ok(());
         }
         let name = name_of(self.names[number as usize - 1].bytes());
-        self.insert(kind_of(op), name, number)
+        self.insert(op.kind(), name, number)
     }
 
     /// The table of the objects that a job names.

@@ -1,8 +1,19 @@
-//! The front of a text: given words, and a number behind them.
+//! The front of a text: letters, given words, and a number behind these.
 ghost use Rattle.std.specs.Prelude.{◌≡◌, ◌++◌, ℕ, List, IfSome, IfNone};
+ghost use Rattle.std.specs.Char.{is_ascii_lowercase};
+ghost use Rattle.std.specs.List.{prefix_len};
 ghost use Rattle.report_reader.specs.Code.Fields.{IsFieldThen};
 
 use decimals::read_decimal;
+
+/// The length of the run of letters at the front of the text.
+pub(crate) fn letter_run(text: &[u8]) -> usize
+    ensures { result ≡ prefix_len is_ascii_lowercase text.now }
+{
+    text.iter()
+        .take_while(|byte| byte.is_ascii_lowercase())
+        .count()
+}
 
 /// The rest of the text behind these words, if it begins with them.
 pub(crate) fn read_words<'a>(text: &'a [u8], words: &[u8]) -> Option<&'a [u8]>

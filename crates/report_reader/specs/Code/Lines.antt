@@ -2,23 +2,27 @@
 use Rattle.std.specs.Prelude.{◌≡◌, ℕ, ◌<◌, ◌≤◌, ◌^◌, true, List, ◌++◌, codes}
 use Rattle.std.specs.Fmt.{decimal}
 use Rattle.std.specs.List.{flat_map, AllByRecursion}
+use Rattle.limits.specs.declared.TheConstants.{MOST_WORKERS}
 use Rattle.seq_objects.specs.Objects.{value_of}
+use Rattle.seq_objects.specs.Parts.{op_of}
+use Rattle.seq_objects.specs.Verbs.{kind_of_verb}
 use Rattle.seq_objects.specs.Words.{reply_words}
 use Rattle.batch_history.specs.Text.{head_line, entry_line, row_line}
 use Rattle.batch_history.specs.declared.row.Row.{Row}
 use Rattle.report_reader.specs.Raw.{FitsEntry, FitsRow}
 use Rattle.report_reader.specs.Code.Objects.{is_mark, names_in, IsKnown, IsFound}
-use Rattle.report_reader.specs.Code.Operations.{kind_of_verb, op_of_verb, spoken_words, IsArgument}
+use Rattle.report_reader.specs.Code.Operations.{spoken_words, IsArgument}
 use Rattle.report_reader.specs.declared.head.Head.{Head}
 use Rattle.report_reader.specs.declared.call.Line.{Line}
 use Rattle.report_reader.specs.declared.call.Numbered.{Numbered}
 use Rattle.report_reader.specs.declared.table.Table.{Table}
 
--- the text is this head line, with 1 to 32 workers and counts of at most `most`, and then the rest
+-- the text is this head line, with at least one worker, no more than the most, and counts of at most `most`, and then
+-- the rest
 pub record IsHeadThen (most : ℕ) (text : List ℕ) (head : Head) (rest : List ℕ) : Type 0 where
   pub written : head_line head.workers head.leaves head.calls head.batches ++ rest ≡ text
   pub some : 1 ≤ head.workers
-  pub few : head.workers ≤ 32
+  pub few : head.workers ≤ MOST_WORKERS
   pub leaves : head.leaves ≤ most
   pub calls : head.calls ≤ most
   pub batches : head.batches ≤ most
@@ -52,7 +56,7 @@ call_of line number = record {
   entry = record {
     leaf = line.leaf;
     worker = line.worker;
-    op = op_of_verb line.spoken.verb number line.spoken.argument;
+    op = op_of line.spoken.verb number line.spoken.argument;
     reply = line.reply;
   };
 }

@@ -1,64 +1,46 @@
 -- Objects that have a name, the marks by which lines name them, and the table that numbers them.
-use Rattle.std.specs.Prelude.{◌≡◌, ℕ, ◌<◌, ◌≤◌, ◌⊎◌, Bool, true, false, ◌&&◌, ◌==◌, List, [], ◌∷◌, ◌++◌, length, map, codes, Option, Some, IsSome, Contains, ⊤}
+use Rattle.std.specs.Prelude.{◌≡◌, ℕ, ◌<◌, ◌≤◌, ◌⊎◌, Bool, true, false, ◌&&◌, ◌==◌, not, List, [], ◌∷◌, ◌++◌, length, map, Option, Some, IsSome, Contains}
+use Rattle.decimals.specs.Runs.{BeginsOutside}
+use denote.Enum.Bare.{sameb}
 use Rattle.indexmap.specs.IndexMap.{get}
 use Rattle.job_names.specs.Names.{AreSpelled, is_spelled, name_of, same_name, spelling}
 use Rattle.job_names.specs.declared.name.Name.{Name}
-use Rattle.seq_objects.specs.Objects.{number_of}
+use Rattle.seq_objects.specs.Parts.{kind_of, number_of}
+use Rattle.seq_objects.specs.contracts.kind.Kind.{the_type}
+use Rattle.seq_objects.specs.declared.kind.Kind.{Kind}
 use Rattle.seq_objects.specs.Words.{name_words}
 use Rattle.seq_objects.specs.declared.op.Op.{Op}
-use Rattle.seq_objects.specs.declared.op.Op.TheVariants as op
 use Rattle.seq_objects.specs.declared.act.Act.TheVariants.{Call}
 use Rattle.sp_order.specs.Jobs.{JobValue, IsJob}
 use Rattle.sp_order.specs.Objects.{name_of_number}
-use Rattle.report_reader.specs.declared.object.Kind.{Kind}
-use Rattle.report_reader.specs.declared.object.Kind.TheVariants.{Counter, Stack, Tree, Queue}
 use Rattle.report_reader.specs.declared.table.Table.{Table}
-
--- the kind of the object that an operation is on
-abbrev pub kind_of_op : Op → Kind
-kind_of_op (op.CounterAdd number addend) = Counter
-kind_of_op (op.Push number item) = Stack
-kind_of_op (op.Pop number) = Stack
-kind_of_op (op.TreeInsert number key) = Tree
-kind_of_op (op.TreeRemove number key) = Tree
-kind_of_op (op.TreeFind number key) = Tree
-kind_of_op (op.TreeNext number key) = Tree
-kind_of_op (op.PqInsert number item) = Queue
-kind_of_op (op.PqTake number) = Queue
-
--- the word of a kind
-abbrev pub kind_text : Kind → List ℕ
-kind_text Counter = codes "counter"
-kind_text Stack = codes "stack"
-kind_text Tree = codes "tree"
-kind_text Queue = codes "queue"
 
 -- what may stand behind a kind word: nothing, or a colon and a name
 abbrev pub is_mark : List ℕ → Bool
 is_mark [] = true
 is_mark (byte ∷ name) = byte == 58 && is_spelled name
 
--- the text is empty or begins with a blank
-abbrev pub BeginsBlank : List ℕ → Type 0
-BeginsBlank [] = ⊤
-BeginsBlank (byte ∷ text) = (byte == 32) ≡ true
+-- whether a byte is no blank
+abbrev pub is_no_blank : ℕ → Bool
+is_no_blank byte = not (byte == 32)
 
 -- the text is a mark, and then the rest, which begins with a blank or is empty
 pub record IsMarkThen (text : List ℕ) (mark : List ℕ) (rest : List ℕ) : Type 0 where
   pub parts : mark ++ rest ≡ text
   pub marked : is_mark mark ≡ true
-  pub ends : BeginsBlank rest
+  pub ends : BeginsOutside is_no_blank rest
 
 -- the names of a table's numbers
 abbrev pub names_in : Table → List (List ℕ)
 names_in table = map spelling table.names.items
 
+-- whether two objects are of one kind and have one name
+abbrev pub same_object : Kind × Name → Kind × Name → Bool
+same_object left right = sameb the_type left.0 right.0 && same_name left.1 right.1
+
 -- the number of the object of this kind with this name, if the table has it
 abbrev pub number_in : Table → Kind → Name → Option ℕ
-number_in table Counter name = get same_name table.counters name
-number_in table Stack name = get same_name table.stacks name
-number_in table Tree name = get same_name table.trees name
-number_in table Queue name = get same_name table.queues name
+number_in table kind name = get same_object table.numbers (kind, name)
 
 -- the number of the object of this kind with this mark, if the table has it; without a name it is 0
 abbrev pub found : Table → Kind → List ℕ → Option ℕ
@@ -76,7 +58,7 @@ mark_of names op = name_words names (number_of op)
 -- the table has the object of an operation under its number
 abbrev pub IsFound : Table → Op → Type 0
 IsFound table op =
-    (number_of op ≤ length (names_in table)) × (found table (kind_of_op op) (mark_of (names_in table) op) ≡ Some (number_of op))
+    (number_of op ≤ length (names_in table)) × (found table (kind_of op) (mark_of (names_in table) op) ≡ Some (number_of op))
 
 -- the numbers of a table are those of its names, which are spelled
 pub record IsKept (table : Table) : Type 0 where
@@ -106,5 +88,5 @@ pub record IsTableOf (job : JobValue) (table : Table) : Type 0 where
   pub closed : table.grows ≡ false
   pub names : names_in table ≡ job.names
   pub called : (kind : Kind) (name : List ℕ) (number : ℕ) → is_spelled name ≡ true → found table kind (58 ∷ name) ≡ Some number
-      → (by : Op) × Contains job.acts (Call by) × (number_of by ≡ number) × (kind_of_op by ≡ kind)
-  pub all : (by : Op) → Contains job.acts (Call by) → 0 < number_of by → found table (kind_of_op by) (mark_of job.names by) ≡ Some (number_of by)
+      → (by : Op) × Contains job.acts (Call by) × (number_of by ≡ number) × (kind_of by ≡ kind)
+  pub all : (by : Op) → Contains job.acts (Call by) → 0 < number_of by → found table (kind_of by) (mark_of job.names by) ≡ Some (number_of by)

@@ -1,4 +1,4 @@
-use Rattle.decimals.proofs.Runs.{one_way}
+use Rattle.decimals.proofs.Decimals.{one_way}
 use Rattle.decimals.proofs.laws.decimals_are_read_one_way.Goals as goal
 
 pub returns : goal.returns

@@ -1,15 +1,17 @@
 use Rattle.std.proofs.Common.{◌-◌, ◌^◌, ◌∙◌, arith}
-use Rattle.decimals.proofs.Runs.{one_way, run_within, run_written, run_read}
+use Rattle.std.specs.Char.{is_ascii_digit}
+use Rattle.decimals.proofs.Runs.{run_within}
+use Rattle.decimals.proofs.Decimals.{one_way, run_written, run_read}
 use Rattle.decimals.proofs.text.read_decimal.Goals as goal
 
 pub split_at-requires : goal.split_at-requires
-split_at-requires c = rw c.digit_run.ensures (run_within c.args.text.now)
+split_at-requires c = run_within is_ascii_digit c.digit_run.result c.args.text.now c.digit_run.ensures
 
 pub returns-in_err-number-clause-none : goal.returns-in_err-number-clause-none
 returns-in_err-number-clause-none c =
     rw c.from_residual.ensures (λ number rest is.
     let is' = run_written c.args.most c.digit_run.result c.args.text.now number rest (omega arith) c.digit_run.ensures is in
-    c.in_err-number.ensures.none number (omega (arith, is.within)) (c.split_at.ensures.front ∙ is'.0))
+    c.in_err-number.ensures.none number (omega (arith, is.within)) (c.split_at.ensures.front ∙ is'))
 
 pub returns-then-number-most-clause-none : goal.returns-then-number-most-clause-none
 returns-then-number-most-clause-none c number rest is =

@@ -1,6 +1,6 @@
 use Rattle.std.proofs.Common.{List, ℕ, sym, ap, subst, ◌∙◌}
 use Rattle.report_reader.specs.Code.Objects.{found, IsKnown}
-use Rattle.report_reader.specs.Code.Operations.{kind_of_verb}
+use Rattle.seq_objects.specs.Verbs.{kind_of_verb}
 use Rattle.report_reader.specs.declared.call.Line.{Line}
 use Rattle.report_reader.proofs.CallLines.{one_line}
 use Rattle.report_reader.proofs.Calls.{call_read, unknown}

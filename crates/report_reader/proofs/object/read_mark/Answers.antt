@@ -1,10 +1,11 @@
 use Rattle.std.proofs.Common.{◌∙◌, sym, ap, true, false, ◌≡◌}
-use Rattle.report_reader.specs.Code.Objects.{is_mark}
-use Rattle.report_reader.proofs.Marks.{run_within, run_read, run_written}
+use Rattle.decimals.proofs.Runs.{run_within}
+use Rattle.report_reader.specs.Code.Objects.{is_mark, is_no_blank}
+use Rattle.report_reader.proofs.Marks.{run_read, run_written}
 use Rattle.report_reader.proofs.object.read_mark.Goals as goal
 
 pub split_at-requires : goal.split_at-requires
-split_at-requires c = rw c.until_blank.ensures (run_within c.args.text.now)
+split_at-requires c = run_within is_no_blank c.until_blank.result c.args.text.now c.until_blank.ensures
 
 pub returns-then-not-is_mark-clause-none : goal.returns-then-not-is_mark-clause-none
 returns-then-not-is_mark-clause-none c mark rest is =

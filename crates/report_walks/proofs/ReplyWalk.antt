@@ -5,7 +5,7 @@ use Rattle.std.proofs.lemmas.Bool.Decides.{nat_tests}
 use Rattle.seq_objects.specs.Objects.{Objects, after, number_of}
 use Rattle.seq_objects.specs.Stores.{Store, store_after}
 use Rattle.seq_objects.specs.declared.op.Op.{Op}
-use Rattle.seq_objects.specs.declared.op.Op.TheVariants.{CounterAdd, Push, Pop, TreeInsert, TreeRemove, TreeFind, TreeNext, PqInsert, PqTake}
+use Rattle.seq_objects.specs.declared.op.Op.TheVariants.{CounterAdd}
 use Rattle.batch_history.specs.Book.{IsLegalFrom}
 use Rattle.batch_history.specs.Serving.{served}
 use Rattle.batch_history.specs.declared.batch.Entry.{Entry}
@@ -22,14 +22,7 @@ AddsWithin op = Unit {0}
 
 counter_after : (objects : Objects) (op : Op) → AddsWithin op → (after objects op).counter ≤ objects.counter + 2 ^ 32
 counter_after objects (CounterAdd number addend) small = omega (arith, small)
-counter_after objects (Push number item) small = omega arith
-counter_after objects (Pop number) small = omega arith
-counter_after objects (TreeInsert number key) small = omega arith
-counter_after objects (TreeRemove number key) small = omega arith
-counter_after objects (TreeFind number key) small = omega arith
-counter_after objects (TreeNext number key) small = omega arith
-counter_after objects (PqInsert number item) small = omega arith
-counter_after objects (PqTake number) small = omega arith
+counter_after objects _ small = omega arith
 
 counter_if : (is : Bool) (new old : Objects) (most : ℕ) → (is ≡ true → new.counter ≤ most) → old.counter ≤ most → (if is then new else old).counter ≤ most
 counter_if true new old most one other = one refl

@@ -9,6 +9,8 @@ ghost use Rattle.shared_collections.specs.Bulks.{bulk_set};
 ghost use Rattle.shared_pieces.specs.Batches.{AllMeet, BatchContext};
 ghost use Rattle.shared_bulk.specs.declared.bulk.BulkInPieces.{BulkInPieces as SetOf};
 ghost use Rattle.shared_bulk.specs.Batches.{IsBatchOf};
+ghost use Rattle.limits.specs.declared.TheConstants.{MOST_WORKERS};
+ghost use Rattle.limits.specs.declared.TheConstants.{PLACES};
 
 use bulk_calls::{BulkCall, BulkOp, BulkSet, Piece, Replies, Rest, Served, in_batch_order};
 use shared_calls::{Combined, Helper};
@@ -59,7 +61,7 @@ impl Combined for BulkInPieces {
         alloc: Global,
         ops: Vec<BulkOp>,
     ) -> Result<(BulkInPieces, Vec<Replies>), AllocError>
-        requires few { length ops.items ≤ 32 }
+        requires few { length ops.items ≤ MOST_WORKERS }
         ensures served { IfOk result (λ p. IsServedInSomeOrder bulk_set self.set ops.items p.1.items p.0.set) }
         ensures failed { OnErr result ⊤ }
     {
@@ -92,8 +94,8 @@ impl InPieces for BulkInPieces {
     }
 
     fn begin(self, alloc: Global, ops: Vec<BulkOp>) -> Result<(BatchRest, Vec<Piece>), AllocError>
-        requires few { length ops.items ≤ 32 }
-        ensures most { IfOk result (λ p. (length p.1.items ≤ 16) × (length p.1.items ≤ 56)) }
+        requires few { length ops.items ≤ MOST_WORKERS }
+        ensures most { IfOk result (λ p. (length p.1.items ≤ 16) × (length p.1.items ≤ PLACES)) }
         ensures remembers { IfOk result (λ p. IsBatchOf p.0 self.set ops.items p.1.items) }
         ensures starved { IfOk result (λ p. AllByRecursion (λ input. ⊤ → ⊤) p.1.items) }
         ensures failed { OnErr result ⊤ }
@@ -133,7 +135,7 @@ impl<'a> Helper<BulkInPieces> for PieceHelper<'a, BulkInPieces> {
         structure: BulkInPieces,
         ops: Vec<BulkOp>,
     ) -> Result<(BulkInPieces, Vec<Replies>), AllocError>
-        requires few { length ops.items ≤ 32 }
+        requires few { length ops.items ≤ MOST_WORKERS }
         ensures served { IfOk result (λ p. IsServedInSomeOrder bulk_set structure.set ops.items p.1.items p.0.set) }
         ensures failed { OnErr result ⊤ }
     {

@@ -7,6 +7,7 @@ ghost use Rattle.shared_calls.specs.Callers.{IsServed, IsUnserved};
 ghost use Rattle.shared_calls.specs.Views.{IsNewCaller, IsCallerOf, IfRefused, IfLost, number_of_callers, number_of, made, seen, is_lost};
 ghost use Rattle.shared_calls.specs.Closing.{AreCallersOf, AreAllCalls, SomeIsLost, NoneIsLost};
 ghost use Rattle.shared_collections.specs.Bulks.{asked, bulk_set};
+ghost use Rattle.limits.specs.declared.TheConstants.{MOST_WORKERS};
 
 use crate::bulk::{BatchRest, BulkInPieces};
 use bulk_calls::{BulkKind, BulkOp, BulkSet, Replies};
@@ -51,7 +52,7 @@ impl SharedBulkSetInPieces {
         alloc: Global,
         callers: usize,
     ) -> Result<(SharedBulkSetInPieces, Vec<CallerWithDesk>), AllocError>
-        requires count { (1 ≤ callers) × (callers ≤ 32) }
+        requires count { (1 ≤ callers) × (callers ≤ MOST_WORKERS) }
         ensures all { IfOk result (λ r. (number_of_callers r.0.shared ≡ callers) × (length r.1.items ≡ callers)) }
         ensures callers { IfOk result (λ r. (k : ℕ) (s : _) → k < callers → s ≡ slice_index_or r.1.items k s → IsNewCaller r.0.shared k s.0) }
         ensures desks { IfOk result (λ r. (k : ℕ) (s : _) → k < callers → s ≡ slice_index_or r.1.items k s → IsDeskOf r.0.board s.1 × (desk_view s.1 ≡ fresh_desk k)) }

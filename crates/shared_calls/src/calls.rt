@@ -9,6 +9,7 @@ ghost use Rattle.shared_calls.specs.Plays.{releasing, own_calls, IsLeft};
 ghost use Rattle.shared_calls.specs.Callers.{in_hand, collected, owing, HasStopped, IsAnswered, IsRefused, IsServed, IsUnserved};
 ghost use Rattle.shared_calls.specs.Rule.{IsLost};
 ghost use Rattle.shared_calls.specs.Views.{IsCallerOf, HasRoom, IfRefused, IfLost, number_of, made, seen, is_lost};
+ghost use Rattle.limits.specs.declared.TheConstants.{MOST_WORKERS};
 
 use crate::combined::Combined;
 use crate::helper::{Alone, Helper};
@@ -52,7 +53,7 @@ impl<T: Combined> Shared<T> {
         requires room { HasRoom self.now.callers ops }
         ensures table { seat.new.table_id ≡ seat.old.table_id }
         ensures below { AllByRecursion (λ u. u < self.now.callers) result.0.items }
-        ensures few { length result.1.items ≤ 32 }
+        ensures few { length result.1.items ≤ MOST_WORKERS }
         ensures took { (looks : ℕ) × (taken : List (AskedOf T.Op))
             × (seat.new.me ≡ (collected seat.old.me.0 looks taken, (self.now.callers, Vacant) ∷ in_hand (map (λ a. a.caller) taken)))
             × (result.0.items ≡ map (λ a. a.caller) taken) × (result.1.items ≡ map (λ a. a.op) taken) }

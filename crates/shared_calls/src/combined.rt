@@ -1,6 +1,7 @@
 //! The structures that can be shared.
 ghost use Rattle.std.specs.Prelude.{◌≤◌, List, length, IfOk, OnErr};
 ghost use Rattle.shared_calls.specs.Serial.{SerialObject, IsServedInSomeOrder};
+ghost use Rattle.limits.specs.declared.TheConstants.{MOST_WORKERS};
 
 use std::alloc::{AllocError, Global};
 
@@ -27,7 +28,7 @@ pub trait Combined: Sized + Drop {
         alloc: Global,
         ops: Vec<Self::Op>,
     ) -> Result<(Self, Vec<Self::Reply>), AllocError>
-        requires few { length ops.items ≤ 32 }
+        requires few { length ops.items ≤ MOST_WORKERS }
         ensures served { IfOk result (λ p. IsServedInSomeOrder object (content self) ops.items p.1.items (content p.0)) }
         ensures failed { OnErr result (fails self ops.items) };
 }

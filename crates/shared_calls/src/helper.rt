@@ -1,6 +1,7 @@
 //! How a caller serves a batch, and what it does while it waits.
 ghost use Rattle.std.specs.Prelude.{◌≤◌, length, IfOk, OnErr};
 ghost use Rattle.shared_calls.specs.Serial.{IsServedInSomeOrder};
+ghost use Rattle.limits.specs.declared.TheConstants.{MOST_WORKERS};
 
 use crate::combined::Combined;
 use std::alloc::{AllocError, Global};
@@ -16,7 +17,7 @@ pub trait Helper<T: Combined> {
         structure: T,
         ops: Vec<T::Op>,
     ) -> Result<(T, Vec<T::Reply>), AllocError>
-        requires few { length ops.items ≤ 32 }
+        requires few { length ops.items ≤ MOST_WORKERS }
         ensures served { IfOk result (λ p. IsServedInSomeOrder T.object (T.content structure) ops.items p.1.items (T.content p.0)) }
         ensures failed { OnErr result (T.fails structure ops.items) };
 
@@ -36,7 +37,7 @@ impl<T: Combined> Helper<T> for Alone {
         structure: T,
         ops: Vec<T::Op>,
     ) -> Result<(T, Vec<T::Reply>), AllocError>
-        requires few { length ops.items ≤ 32 }
+        requires few { length ops.items ≤ MOST_WORKERS }
         ensures served { IfOk result (λ p. IsServedInSomeOrder T.object (T.content structure) ops.items p.1.items (T.content p.0)) }
         ensures failed { OnErr result (T.fails structure ops.items) }
     {

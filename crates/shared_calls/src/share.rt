@@ -5,6 +5,7 @@ ghost use Rattle.shared_calls.specs.Callers.{idle_view};
 ghost use Rattle.shared_calls.specs.Views.{AreNewCallers, number_of_callers};
 ghost use Rattle.shared_calls.specs.Serial.{SerialObject};
 ghost use Rattle.shared_calls.specs.Rule.{newcomers};
+ghost use Rattle.limits.specs.declared.TheConstants.{MOST_WORKERS};
 
 use crate::combined::Combined;
 use crate::rule::{CallRule, Enroll, FirstCaller};
@@ -19,7 +20,7 @@ fn opening_slots<T: Combined>(
     structure: T,
     callers: usize,
 ) -> Result<Vec<Slot<T, T::Op, T::Reply>>, AllocError>
-    requires few { callers ≤ 32 }
+    requires few { callers ≤ MOST_WORKERS }
     ensures { IfOk result (λ slots. (rs : _) × (slots.items ≡ replicate callers Vacant ++ WholeOf structure rs ∷ [])) }
 {
     let mut slots = Vec::with_capacity(alloc, callers + 1)?;
@@ -32,7 +33,7 @@ fn opening_slots<T: Combined>(
 
 /// The words of these callers, all away, and of the free flag.
 fn opening_words(alloc: Global, callers: usize) -> Result<Vec<u64>, AllocError>
-    requires few { callers ≤ 32 }
+    requires few { callers ≤ MOST_WORKERS }
     ensures { IfOk result (λ words. words.items ≡ slice_set (replicate (callers + 1) 3) callers 0) }
 {
     let mut words = Vec::from_elem(alloc, 3u64, callers + 1)?;
@@ -85,7 +86,7 @@ impl<T: Combined> Shared<T> {
         structure: T,
         callers: usize,
     ) -> Result<(Shared<T>, Vec<Caller<T>>), AllocError>
-        requires count { (1 ≤ callers) × (callers ≤ 32) }
+        requires count { (1 ≤ callers) × (callers ≤ MOST_WORKERS) }
         requires opening { T.content structure ≡ SerialObject.opening T.object }
         ensures all { IfOk result (λ r. number_of_callers r.0 ≡ callers) }
         ensures callers { IfOk result (λ r. AreNewCallers callers r.0 r.1.items) }

@@ -3,6 +3,7 @@ ghost use Rattle.std.specs.Prelude.{◌≡◌, ◌+◌, ◌<◌, ◌≤◌, [], 
 ghost use Rattle.shared_calls.specs.declared.view.Slot.TheVariants.{Vacant};
 ghost use Rattle.shared_calls.specs.Callers.{idle_view};
 ghost use Rattle.shared_calls.specs.Plays.{KnowsItsCalls};
+ghost use Rattle.limits.specs.declared.TheConstants.{MOST_WORKERS};
 
 use crate::combined::Combined;
 use crate::rule::CallRule;
@@ -22,7 +23,7 @@ pub struct Shared<T: Combined> {
     pub(crate) callers: usize,
     pub(crate) alloc: Global,
     ghost sized: { (table.shared.table_id.words ≡ callers + 1) × (table.shared.table_id.slots ≡ callers + 1) },
-    ghost some: { (1 ≤ callers) × (callers ≤ 32) },
+    ghost some: { (1 ≤ callers) × (callers ≤ MOST_WORKERS) },
     ghost key: { table.shared.key ≡ callers },
 }
 

@@ -5,6 +5,7 @@ ghost use Rattle.bulk_calls.specs.Bulk.{bulk_after, bulk_replies, operations};
 ghost use Rattle.bulk_calls.specs.Batches.{in_batch_order};
 ghost use Rattle.shared_calls.specs.Serial.{IsServedInSomeOrder};
 ghost use Rattle.shared_collections.specs.Bulks.{asked, bulk_set};
+ghost use Rattle.limits.specs.declared.TheConstants.{MOST_WORKERS};
 
 use bulk_calls::{BulkCall, BulkKind, BulkOp, BulkSet, Replies, in_batch_order};
 use reply_order::in_call_order;
@@ -88,7 +89,7 @@ impl Combined for Bulk {
     ghost fails = { λ b ops. ⊤ };
 
     fn serve(self, alloc: Global, ops: Vec<BulkOp>) -> Result<(Bulk, Vec<Replies>), AllocError>
-        requires few { length ops.items ≤ 32 }
+        requires few { length ops.items ≤ MOST_WORKERS }
         ensures served { IfOk result (λ p. IsServedInSomeOrder bulk_set self.set ops.items p.1.items p.0.set) }
         ensures failed { OnErr result ⊤ }
     {

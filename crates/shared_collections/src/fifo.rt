@@ -5,6 +5,7 @@ ghost use Rattle.shared_calls.specs.Serial.{IsServedInSomeOrder};
 ghost use Rattle.shared_collections.specs.Fifos.{fifo};
 ghost use Rattle.shared_collections.specs.Code.Fifos.{item_in, own_reply};
 ghost use Rattle.shared_collections.specs.Code.Numbers.{AreSmall, IsSmall, number_in};
+ghost use Rattle.limits.specs.declared.TheConstants.{MOST_WORKERS};
 
 use crate::numbers::small_number;
 use batched_queue::{FifoCall, FifoQueue, in_batch_order};
@@ -121,7 +122,7 @@ impl Combined for Fifo {
     ghost fails = { λ f ops. ⊤ };
 
     fn serve(self, alloc: Global, ops: Vec<FifoOp>) -> Result<(Fifo, Vec<FifoReply>), AllocError>
-        requires few { length ops.items ≤ 32 }
+        requires few { length ops.items ≤ MOST_WORKERS }
         ensures served { IfOk result (λ p. IsServedInSomeOrder fifo self.queue ops.items p.1.items p.0.queue) }
         ensures failed { OnErr result ⊤ }
     {

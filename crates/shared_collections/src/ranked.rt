@@ -4,6 +4,7 @@ ghost use Rattle.std.specs.List.{AllByRecursion};
 ghost use Rattle.shared_calls.specs.Serial.{IsServedInSomeOrder};
 ghost use Rattle.shared_collections.specs.Maps.{ranked_map};
 ghost use Rattle.shared_collections.specs.Code.Maps.{asked_of, count_in, own_reply, own_replies, IsSmallOp, AreSmallEntries, IsSmallReply, AreSmallReplies};
+ghost use Rattle.limits.specs.declared.TheConstants.{MOST_WORKERS};
 
 use crate::numbers::small_number;
 use batched_map::{MapCall, MapOp, RankBook, in_batch_order};
@@ -153,7 +154,7 @@ impl Combined for RankedMap {
         alloc: Global,
         ops: Vec<RankedOp>,
     ) -> Result<(RankedMap, Vec<RankedReply>), AllocError>
-        requires few { length ops.items ≤ 32 }
+        requires few { length ops.items ≤ MOST_WORKERS }
         ensures served { IfOk result (λ p. IsServedInSomeOrder ranked_map self.book ops.items p.1.items p.0.book) }
         ensures failed { OnErr result ⊤ }
     {

@@ -5,6 +5,7 @@ ghost use Rattle.shared_calls.specs.Callers.{IsServed, IsUnserved};
 ghost use Rattle.shared_calls.specs.Views.{AreNewCallers, IsCallerOf, IfRefused, IfLost, number_of_callers, number_of, made, seen, is_lost};
 ghost use Rattle.shared_calls.specs.Closing.{AreCallersOf, AreAllCalls, SomeIsLost, NoneIsLost};
 ghost use Rattle.shared_collections.specs.Fifos.{fifo};
+ghost use Rattle.limits.specs.declared.TheConstants.{MOST_WORKERS};
 
 use crate::fifo::{Fifo, FifoOp, FifoReply};
 use batched_queue::FifoQueue;
@@ -29,7 +30,7 @@ impl SharedFifo {
     ///
     /// Memory: proportional to the callers.
     pub fn new(alloc: Global, callers: usize) -> Result<(SharedFifo, Vec<Caller<Fifo>>), AllocError>
-        requires count { (1 ≤ callers) × (callers ≤ 32) }
+        requires count { (1 ≤ callers) × (callers ≤ MOST_WORKERS) }
         ensures all { IfOk result (λ r. number_of_callers r.0.shared ≡ callers) }
         ensures callers { IfOk result (λ r. AreNewCallers callers r.0.shared r.1.items) }
     {

@@ -2,6 +2,7 @@
 ghost use Rattle.std.specs.Prelude.{◌≡◌, ◌≤◌, [], length, IfOk, OnErr};
 ghost use Rattle.shared_calls.specs.Serial.{IsServedInSomeOrder};
 ghost use Rattle.piece_board.specs.Boards.{desk_view, IsDeskOf};
+ghost use Rattle.limits.specs.declared.TheConstants.{MOST_WORKERS};
 
 use crate::in_pieces::InPieces;
 use crate::rows::{run_all, run_first};
@@ -44,7 +45,7 @@ impl<'a, T: InPieces> PieceHelper<'a, T> {
         structure: T,
         ops: Vec<T::Op>,
     ) -> Result<(T, Vec<T::Reply>), AllocError>
-        requires few { length ops.items ≤ 32 }
+        requires few { length ops.items ≤ MOST_WORKERS }
         ensures served { IfOk result (λ p. IsServedInSomeOrder T.object (T.content structure) ops.items p.1.items (T.content p.0)) }
         ensures failed { OnErr result (T.fails structure ops.items) }
     {

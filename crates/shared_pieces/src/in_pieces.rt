@@ -3,6 +3,8 @@ ghost use Rattle.std.specs.Prelude.{◌≡◌, ℕ, ◌≤◌, length, IfOk, OnE
 ghost use Rattle.std.specs.List.{AllByRecursion};
 ghost use Rattle.shared_calls.specs.Serial.{IsServedInSomeOrder};
 ghost use Rattle.shared_pieces.specs.Batches.{AllMeet, BatchContext};
+ghost use Rattle.limits.specs.declared.TheConstants.{MOST_WORKERS};
+ghost use Rattle.limits.specs.declared.TheConstants.{PLACES};
 
 use shared_calls::Combined;
 use std::alloc::{AllocError, Global};
@@ -43,8 +45,8 @@ pub trait InPieces: Combined {
         alloc: Global,
         ops: Vec<Self::Op>,
     ) -> Result<(Self::Rest, Vec<Self::In>), AllocError>
-        requires few { length ops.items ≤ 32 }
-        ensures most { IfOk result (λ p. (length p.1.items ≤ MOST) × (length p.1.items ≤ 56)) }
+        requires few { length ops.items ≤ MOST_WORKERS }
+        ensures most { IfOk result (λ p. (length p.1.items ≤ MOST) × (length p.1.items ≤ PLACES)) }
         ensures remembers { IfOk result (λ p. is_context_of p.0 (record { before = self; ops = ops.items; ins = p.1.items })) }
         ensures starved { IfOk result (λ p. AllByRecursion (λ input. starves input → Self.fails self ops.items) p.1.items) }
         ensures failed { OnErr result (Self.fails self ops.items) };

@@ -3,6 +3,7 @@ ghost use Rattle.std.specs.Prelude.{◌≡◌, ℕ, ◌<◌, ◌≤◌, List, []
 ghost use Rattle.piece_board.specs.Boards.{desk_view, IsDeskOf};
 ghost use Rattle.shared_pieces.specs.Batches.{AllMeet, MeetsOrStarves, OneStarves};
 ghost use Rattle.shared_pieces.specs.Rows.{placed_from};
+ghost use Rattle.limits.specs.declared.TheConstants.{PLACES};
 
 use crate::in_pieces::InPieces;
 use crate::work::Pieces;
@@ -66,7 +67,7 @@ pub(crate) fn run_first<T: InPieces>(
 fn post_all<T: InPieces>(board: &Board<Pieces<T>>, desk: &mut Desk<Pieces<T>>, ins: Vec<T::In>)
     requires desk { IsDeskOf board.now desk.old }
     requires free { (desk_view desk.old).posted ≡ [] }
-    requires few { length ins.items ≤ 56 }
+    requires few { length ins.items ≤ PLACES }
     ensures desk { IsDeskOf board.now desk.new }
     ensures posted { (desk_view desk.new).posted ≡ placed_from 0 ins.items }
 {
@@ -102,7 +103,7 @@ fn collect_one<T: InPieces, R: Wait>(
     place: u32,
 ) -> Option<T::Out>
     requires desk { IsDeskOf board.now desk.old }
-    requires place { place < 56 }
+    requires place { place < PLACES }
     requires first { (input : T.In) × (rest : List (ℕ × T.In)) × ((desk_view desk.old).posted ≡ (place, input) ∷ rest) }
     ensures desk { IsDeskOf board.now desk.new }
     ensures met { (input : T.In) (rest : List (ℕ × T.In)) → (desk_view desk.old).posted ≡ (place, input) ∷ rest → MeetsOrStarves T.meets T.starves input result }
@@ -127,7 +128,7 @@ fn collect_all<T: InPieces, R: Wait>(
     outs: Vec<T::Out>,
 ) -> Option<Vec<T::Out>>
     requires desk { IsDeskOf board.now desk.old }
-    requires posted { (ins : List T.In) × ((desk_view desk.old).posted ≡ placed_from 0 ins) × (count ≡ length ins) × (length ins ≤ 56) }
+    requires posted { (ins : List T.In) × ((desk_view desk.old).posted ≡ placed_from 0 ins) × (count ≡ length ins) × (length ins ≤ PLACES) }
     requires room { (outs.items ≡ []) × (vec_len outs ≡ 0) × (count ≤ vec_capacity outs) }
     ensures desk { IsDeskOf board.now desk.new }
     ensures free { (desk_view desk.new).posted ≡ [] }
@@ -157,7 +158,7 @@ pub(crate) fn run_all<T: InPieces, R: Wait>(
 ) -> Option<Vec<T::Out>>
     requires desk { IsDeskOf board.now desk.old }
     requires free { (desk_view desk.old).posted ≡ [] }
-    requires few { length ins.items ≤ 56 }
+    requires few { length ins.items ≤ PLACES }
     requires room { (outs.items ≡ []) × (vec_len outs ≡ 0) × (length ins.items ≤ vec_capacity outs) }
     ensures desk { IsDeskOf board.now desk.new }
     ensures free { (desk_view desk.new).posted ≡ [] }

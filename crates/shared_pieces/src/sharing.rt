@@ -4,6 +4,7 @@ ghost use Rattle.shared_calls.specs.Serial.{SerialObject};
 ghost use Rattle.shared_calls.specs.Views.{IsNewCaller, number_of_callers};
 ghost use Rattle.piece_board.specs.Boards.{desk_view, IsDeskOf};
 ghost use Rattle.piece_board.specs.Desks.{fresh_desk};
+ghost use Rattle.limits.specs.declared.TheConstants.{MOST_WORKERS};
 
 use crate::in_pieces::InPieces;
 use crate::work::Pieces;
@@ -47,7 +48,7 @@ pub fn share_in_pieces<T: InPieces>(
     structure: T,
     callers: usize,
 ) -> Result<SharedInPieces<T>, AllocError>
-    requires count { (1 ≤ callers) × (callers ≤ 32) }
+    requires count { (1 ≤ callers) × (callers ≤ MOST_WORKERS) }
     requires opening { T.content structure ≡ SerialObject.opening T.object }
     ensures all { IfOk result (λ r. (number_of_callers r.0 ≡ callers) × (length r.2.items ≡ callers)) }
     ensures callers { IfOk result (λ r. (k : ℕ) (s : _) → k < callers → s ≡ slice_index_or r.2.items k s → IsNewCaller r.0 k s.0) }

@@ -5,6 +5,7 @@ ghost use Rattle.std.specs.List.{AllByRecursion};
 ghost use Rattle.shared_calls.specs.Views.{IsCallerOf, number_of, made, is_lost};
 ghost use Rattle.shared_uses.specs.declared.keys.Inserter.{Inserter as InserterOf};
 ghost use Rattle.shared_uses.specs.Inserting.{IsDistinctCount, HaveInserted, IsReady, IsDone, new_in};
+ghost use Rattle.limits.specs.declared.TheConstants.{MOST_WORKERS};
 
 use shared_calls::Caller;
 use shared_structures::sending::sets_go_to_threads;
@@ -103,7 +104,7 @@ pub fn count_distinct<R: Wait + Threads + Sync>(
     alloc: Global,
     keys: Vec<Vec<u32>>,
 ) -> Result<u64, AllocError>
-    requires threads { (1 ≤ length keys.items) × (length keys.items ≤ 32) }
+    requires threads { (1 ≤ length keys.items) × (length keys.items ≤ MOST_WORKERS) }
     ensures { IfOk result (λ count. IsDistinctCount (flat_map (λ own. own.items) keys.items) count) }
 {
     let (set, callers) = SharedSet::new(alloc, keys.len())?;

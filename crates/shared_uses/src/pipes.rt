@@ -9,6 +9,7 @@ ghost use Rattle.std.specs.List.{AllByRecursion};
 ghost use Rattle.shared_calls.specs.Views.{is_lost};
 ghost use Rattle.shared_uses.specs.declared.passing.Part.{Part as PartOf};
 ghost use Rattle.shared_uses.specs.Piping.{HasAllRoom, IsReady, HasPassed, IsDone, ArePassedOn};
+ghost use Rattle.limits.specs.declared.TheConstants.{MOST_WORKERS};
 
 use crate::passing::{Part, Work, finish, pass};
 use shared_calls::Caller;
@@ -98,7 +99,7 @@ pub fn pass_on<R: Wait + Threads + Sync>(
     alloc: Global,
     work: Vec<Work>,
 ) -> Result<Vec<Vec<u32>>, AllocError>
-    requires threads { (1 ≤ length work.items) × (length work.items ≤ 32) }
+    requires threads { (1 ≤ length work.items) × (length work.items ≤ MOST_WORKERS) }
     requires even { sum_by (λ w. length w.puts.items) work.items ≡ sum_by (λ w. w.takes) work.items }
     ensures counts { IfOk result (λ taken. map (λ t. length t.items) taken.items ≡ map (λ w. w.takes) work.items) }
     ensures passed { IfOk result (λ taken. ArePassedOn (map (λ w. w.puts.items) work.items) (map (λ t. t.items) taken.items)) }

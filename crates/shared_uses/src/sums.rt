@@ -3,6 +3,7 @@ ghost use Rattle.std.specs.Prelude.{◌≡◌, ℕ, ◌%◌, ◌^◌, ◌<◌, �
 ghost use Rattle.shared_calls.specs.Views.{IsCallerOf, number_of, made, is_lost};
 ghost use Rattle.shared_uses.specs.declared.sums.Job.{Job as JobOf};
 ghost use Rattle.shared_uses.specs.Adding.{AreJobs, sum_between};
+ghost use Rattle.limits.specs.declared.TheConstants.{MOST_WORKERS};
 
 use shared_calls::Caller;
 use shared_structures::{Counter, SharedCounter};
@@ -103,7 +104,7 @@ pub fn sum_in_threads<R: Wait + Threads + Sync>(
     numbers: &[u64],
     threads: usize,
 ) -> Result<u64, AllocError>
-    requires threads { (1 ≤ threads) × (threads ≤ 32) }
+    requires threads { (1 ≤ threads) × (threads ≤ MOST_WORKERS) }
     ensures { IfOk result (λ total. total ≡ sum numbers.now % 2 ^ 64) }
 {
     let (counter, callers) = SharedCounter::new(alloc, threads)?;

@@ -3,6 +3,7 @@ ghost use Rattle.std.specs.Prelude.{◌≡◌, ℕ, ◌*◌, ◌<◌, ◌≤◌,
 ghost use Rattle.std.specs.List.{range_with_len};
 ghost use Rattle.shared_calls.specs.Views.{AreNewCallers, IsCallerOf, number_of, made, is_lost};
 ghost use Rattle.shared_uses.specs.Drawing.{HasDrawn, AreApart};
+ghost use Rattle.limits.specs.declared.TheConstants.{MOST_WORKERS};
 
 use shared_calls::Caller;
 use shared_structures::{Counter, SharedCounter};
@@ -83,7 +84,7 @@ pub fn draw_in_threads<R: Wait + Threads + Sync>(
     threads: usize,
     count: usize,
 ) -> Result<Vec<Vec<u64>>, AllocError>
-    requires threads { (1 ≤ threads) × (threads ≤ 32) }
+    requires threads { (1 ≤ threads) × (threads ≤ MOST_WORKERS) }
     requires fits { threads * count < 2 ^ 64 }
     ensures { IfOk result (λ drawn. IsPermutation (flat_map (λ tickets. tickets.items) drawn.items) (range_with_len 1 (threads * count))) }
 {

@@ -2,7 +2,7 @@
 use Rattle.std.proofs.Common.{◌≡◌, ℕ, ◌+◌, List, [], ◌∷◌, refl, ap, arith}
 use Rattle.seq_objects.specs.declared.call.Call.{Call}
 use Rattle.seq_objects.specs.declared.op.Op.{Op}
-use Rattle.seq_objects.specs.declared.op.Op.TheVariants.{CounterAdd, Push, Pop, TreeInsert, TreeRemove, TreeFind, TreeNext, PqInsert, PqTake}
+use Rattle.seq_objects.specs.declared.op.Op.TheVariants.{CounterAdd}
 use Rattle.seq_objects.specs.declared.reply.Reply.TheVariants.{Number}
 use Rattle.seq_objects.specs.Batches.{kind_of, Counter, AreOf}
 use Rattle.seq_objects.specs.Serial.{after_all, replies_to_all, of_counter}
@@ -20,14 +20,7 @@ use Rattle.batched_counter.proofs.EndLemmas.Sums.{bounded_all, end_is, replies_a
 -- additions served one after another
 serial_step : (n : ℕ) (op : Op) (worker leaf : ℕ) (calls : List Call) → kind_of op ≡ Counter → ((m : ℕ) → replies_to_all (of_counter m) calls ≡ number_replies 0 (sums_from m (addends calls))) → replies_to_all (of_counter n) (record { worker = worker; leaf = leaf; op = op } ∷ calls) ≡ number_replies 0 (sums_from n (addends (record { worker = worker; leaf = leaf; op = op } ∷ calls)))
 serial_step n (CounterAdd number a) worker leaf calls is ih = let e : n + a ≡ 0 + (n + a) = omega arith in rw (ih (n + a)) (ap (λ k. Number k ∷ number_replies 0 (sums_from (n + a) (addends calls))) e)
-serial_step n (Push number a) worker leaf calls is ih = absurd cc
-serial_step n (Pop number) worker leaf calls is ih = absurd cc
-serial_step n (TreeInsert number a) worker leaf calls is ih = absurd cc
-serial_step n (TreeRemove number a) worker leaf calls is ih = absurd cc
-serial_step n (TreeFind number a) worker leaf calls is ih = absurd cc
-serial_step n (TreeNext number a) worker leaf calls is ih = absurd cc
-serial_step n (PqInsert number a) worker leaf calls is ih = absurd cc
-serial_step n (PqTake number) worker leaf calls is ih = absurd cc
+serial_step n _ worker leaf calls is ih = absurd cc
 
 pub serial_replies : (n : ℕ) (calls : List Call) → AreOf Counter calls
     → replies_to_all (of_counter n) calls ≡ number_replies 0 (sums_from n (addends calls))
@@ -36,14 +29,7 @@ serial_replies n (call ∷ calls) all = serial_step n call.op call.worker call.l
 
 after_step : (n : ℕ) (op : Op) (worker leaf : ℕ) (calls : List Call) → kind_of op ≡ Counter → ((m : ℕ) → after_all (of_counter m) calls ≡ of_counter (m + total (addends calls))) → after_all (of_counter n) (record { worker = worker; leaf = leaf; op = op } ∷ calls) ≡ of_counter (n + total (addends (record { worker = worker; leaf = leaf; op = op } ∷ calls)))
 after_step n (CounterAdd number a) worker leaf calls is ih = let e : n + a + total (addends calls) ≡ n + (a + total (addends calls)) = omega arith in rw (ih (n + a)) (ap of_counter e)
-after_step n (Push number a) worker leaf calls is ih = absurd cc
-after_step n (Pop number) worker leaf calls is ih = absurd cc
-after_step n (TreeInsert number a) worker leaf calls is ih = absurd cc
-after_step n (TreeRemove number a) worker leaf calls is ih = absurd cc
-after_step n (TreeFind number a) worker leaf calls is ih = absurd cc
-after_step n (TreeNext number a) worker leaf calls is ih = absurd cc
-after_step n (PqInsert number a) worker leaf calls is ih = absurd cc
-after_step n (PqTake number) worker leaf calls is ih = absurd cc
+after_step n _ worker leaf calls is ih = absurd cc
 
 pub serial_after : (n : ℕ) (calls : List Call) → AreOf Counter calls
     → after_all (of_counter n) calls ≡ of_counter (n + total (addends calls))

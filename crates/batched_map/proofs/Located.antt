@@ -12,7 +12,7 @@ use Rattle.rank_nodes.proofs.EntryLemmas.Ranks.{rank_low, rank_high}
 use Rattle.seq_objects.specs.Objects.{number_or_empty}
 use Rattle.seq_objects.specs.declared.reply.Reply.TheVariants.{Number}
 use Rattle.batched_map.specs.declared.call.MapOp.{MapOp}
-use Rattle.batched_map.specs.declared.call.MapOp.TheVariants.{Put, Del, Get, Rank, Nth}
+use Rattle.batched_map.specs.declared.call.MapOp.TheVariants.{Get, Rank, Nth}
 use Rattle.batched_map.specs.Maps.{is_query, reply_to}
 use Rattle.batched_map.specs.Code.Ranges.{sizes_before, range_of, reply_in}
 
@@ -103,8 +103,6 @@ key_located (b ∷ starts) before entries index le up =
 pub located : (starts : List ℕ) (entries : List Entry) → Ascends entries → (op : MapOp) → is_query op ≡ true
     → let rs = ranges key_of starts entries in let group = range_of starts (drop 1 (sizes_before 0 rs)) op in
     reply_in (get_or (sizes_before 0 rs) group 0) (get_or rs group []) op ≡ reply_to entries op
-located starts entries up (Put key val) is = cc
-located starts entries up (Del key) is = cc
 located starts entries up (Get key) is = ap number_or_empty (value_located starts entries key up)
 located starts entries up (Rank key) is =
     let whole : 0 + rank_of key entries ≡ rank_of key entries = omega arith in
@@ -112,3 +110,4 @@ located starts entries up (Rank key) is =
 located starts entries up (Nth index) is =
     let whole : index - 0 ≡ index = omega arith in
     ap number_or_empty (key_located starts 0 entries index (omega arith) up ∙ ap (λ i. key_at i entries) whole)
+located starts entries up _ is = cc

@@ -6,7 +6,7 @@ use Rattle.keyed_pieces.specs.Keyed.{replies_to_each}
 use Rattle.rank_nodes.specs.declared.entry.Entry.{Entry}
 use Rattle.seq_objects.specs.declared.reply.Reply.{Reply}
 use Rattle.batched_map.specs.declared.call.MapOp.{MapOp}
-use Rattle.batched_map.specs.declared.call.MapOp.TheVariants.{Put, Del, Get, Rank, Nth}
+use Rattle.batched_map.specs.declared.call.MapOp.TheVariants.{Put, Del}
 use Rattle.batched_map.specs.declared.call.MapCall.{MapCall}
 use Rattle.batched_map.specs.Maps.{after, reply_to, map_after, map_replies, is_query, operations}
 use Rattle.batched_map.specs.Batches.{ComesFirst, ComesFirstOf, after_batches, replies_to_batches, operations_of}
@@ -23,9 +23,7 @@ AreUpdates ops = AllByRecursion (λ op. is_query op ≡ false) ops
 unchanged : (entries : List Entry) (op : MapOp) → is_query op ≡ true → after entries op ≡ entries
 unchanged entries (Put key val) is = cc
 unchanged entries (Del key) is = cc
-unchanged entries (Get key) is = refl
-unchanged entries (Rank key) is = refl
-unchanged entries (Nth index) is = refl
+unchanged entries _ is = refl
 
 pub after_queries : (entries : List Entry) (queries updates : List MapOp) → AreQueries queries
     → map_after entries (queries ++ updates) ≡ map_after entries updates
@@ -44,16 +42,12 @@ replies_to_queries reply entries (op ∷ queries) updates all =
 pub old_in_range : (before : ℕ) (entries : List Entry) (op : MapOp) → is_query op ≡ false → reply_in before entries op ≡ old_value entries op
 old_in_range before entries (Put key val) is = refl
 old_in_range before entries (Del key) is = refl
-old_in_range before entries (Get key) is = cc
-old_in_range before entries (Rank key) is = cc
-old_in_range before entries (Nth index) is = cc
+old_in_range before entries _ is = cc
 
 pub old_in_whole : (entries : List Entry) (op : MapOp) → is_query op ≡ false → reply_to entries op ≡ old_value entries op
 old_in_whole entries (Put key val) is = refl
 old_in_whole entries (Del key) is = refl
-old_in_whole entries (Get key) is = cc
-old_in_whole entries (Rank key) is = cc
-old_in_whole entries (Nth index) is = cc
+old_in_whole entries _ is = cc
 
 pub replies_to_updates : (reply : List Entry → MapOp → Reply) → ((entries : List Entry) (op : MapOp) → is_query op ≡ false → reply entries op ≡ old_value entries op)
     → (entries : List Entry) (updates : List MapOp) → AreUpdates updates

@@ -72,9 +72,7 @@ all_within starts entries n is (op ∷ ops) =
 update_group : (starts : List ℕ) (entries : List Entry) (op : MapOp) → is_query op ≡ false → group_in starts entries op ≡ group_of (op_key op) starts
 update_group starts entries (Put key val) is = refl
 update_group starts entries (Del key) is = refl
-update_group starts entries (Get key) is = cc
-update_group starts entries (Rank key) is = cc
-update_group starts entries (Nth index) is = cc
+update_group starts entries _ is = cc
 
 update_groups : (starts : List ℕ) (entries : List Entry) (ops : List MapOp) → AreUpdates ops
     → map (group_in starts entries) ops ≡ map (λ op. group_of (op_key op) starts) ops
@@ -208,9 +206,7 @@ ranges_reply starts entries ops parts up g less =
 ascends_one : (entries : List Entry) (op : MapOp) → Ascends entries → Ascends (after entries op)
 ascends_one entries (Put key val) up = ascends_with key val entries up
 ascends_one entries (Del key) up = ascends_without key entries up
-ascends_one entries (Get key) up = up
-ascends_one entries (Rank key) up = up
-ascends_one entries (Nth index) up = up
+ascends_one entries _ up = up
 
 pub ascends_after : (entries : List Entry) (ops : List MapOp) → Ascends entries → Ascends (map_after entries ops)
 ascends_after entries [] up = up

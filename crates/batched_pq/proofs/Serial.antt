@@ -2,7 +2,7 @@
 use Rattle.std.proofs.Common.{◌≡◌, ℕ, suc, ◌+◌, ◌-◌, ◌<◌, inl, inr, List, [], ◌∷◌, ◌++◌, length, None, refl, ap, arith}
 use Rattle.std.specs.List.{AllByRecursion}
 use Rattle.seq_objects.specs.declared.op.Op.{Op}
-use Rattle.seq_objects.specs.declared.op.Op.TheVariants.{CounterAdd, Push, Pop, TreeInsert, TreeRemove, TreeFind, TreeNext, PqInsert, PqTake}
+use Rattle.seq_objects.specs.declared.op.Op.TheVariants.{PqInsert, PqTake}
 use Rattle.seq_objects.specs.declared.call.Call.{Call}
 use Rattle.seq_objects.specs.declared.reply.Reply.TheVariants.{Unit as Done}
 use Rattle.seq_objects.specs.Objects.{with_item, least, without_least, number_or_empty}
@@ -16,15 +16,9 @@ use Rattle.batched_pq.specs.Code.End.{take_replies, after_takes, insert_replies}
 -- in batch order, no insert follows a take
 not_before : (taken : ℕ) (op : Op) (worker worker' : ℕ) → kind_of op ≡ Queue
     → ComesFirst (PqTake taken) worker op worker' → item_of op ≡ None
-not_before taken (CounterAdd number a) worker worker' is first = absurd cc
-not_before taken (Push number a) worker worker' is first = absurd cc
-not_before taken (Pop number) worker worker' is first = absurd cc
-not_before taken (TreeInsert number a) worker worker' is first = absurd cc
-not_before taken (TreeRemove number a) worker worker' is first = absurd cc
-not_before taken (TreeFind number a) worker worker' is first = absurd cc
-not_before taken (TreeNext number a) worker worker' is first = absurd cc
 not_before taken (PqInsert number a) worker worker' is first = absurd (elim first [ inl less ↦ omega (arith, less) | inr same ↦ omega (arith, same.0) ])
 not_before taken (PqTake number) worker worker' is first = refl
+not_before taken _ worker worker' is first = absurd cc
 
 no_inserts : (taken worker : ℕ) (calls : List Call) → AreOf Queue calls
     → AllByRecursion (λ call. ComesFirst (PqTake taken) worker call.op call.worker) calls
@@ -36,13 +30,6 @@ abbrev Replied : List ℕ → List Call → Type 0
 Replied bag calls = replies_to_all (of_bag bag) calls ≡ insert_replies (length (inserts_of calls)) ++ take_replies (takes_of calls) (with_items (inserts_of calls) bag)
 
 replied_step : (bag : List ℕ) (op : Op) (worker leaf : ℕ) (calls : List Call) → kind_of op ≡ Queue → AreOf Queue calls → AllByRecursion (λ call. ComesFirst op worker call.op call.worker) calls → ((bag' : List ℕ) → Replied bag' calls) → Replied bag (record { worker = worker; leaf = leaf; op = op } ∷ calls)
-replied_step bag (CounterAdd number a) worker leaf calls is all first ih = absurd cc
-replied_step bag (Push number a) worker leaf calls is all first ih = absurd cc
-replied_step bag (Pop number) worker leaf calls is all first ih = absurd cc
-replied_step bag (TreeInsert number a) worker leaf calls is all first ih = absurd cc
-replied_step bag (TreeRemove number a) worker leaf calls is all first ih = absurd cc
-replied_step bag (TreeFind number a) worker leaf calls is all first ih = absurd cc
-replied_step bag (TreeNext number a) worker leaf calls is all first ih = absurd cc
 replied_step bag (PqInsert number a) worker leaf calls is all first ih =
     let same : 0 + takes_of calls ≡ takes_of calls = omega arith in
     rw same (ap (λ replies. Done ∷ replies) (ih (with_item a bag)))
@@ -51,6 +38,7 @@ replied_step bag (PqTake number) worker leaf calls is all first ih =
     let rest = rw none at (ih (without_least bag)) in
     let one : 1 + takes_of calls ≡ suc (takes_of calls) = omega arith in
     rw (none, one) (ap (λ replies. number_or_empty (least bag) ∷ replies) rest)
+replied_step bag _ worker leaf calls is all first ih = absurd cc
 
 pub serial_replies : (bag : List ℕ) (calls : List Call) → AreOf Queue calls → AreInBatchOrder calls
     → Replied bag calls
@@ -61,13 +49,6 @@ abbrev Served : List ℕ → List Call → Type 0
 Served bag calls = after_all (of_bag bag) calls ≡ of_bag (after_takes (takes_of calls) (with_items (inserts_of calls) bag))
 
 served_step : (bag : List ℕ) (op : Op) (worker leaf : ℕ) (calls : List Call) → kind_of op ≡ Queue → AreOf Queue calls → AllByRecursion (λ call. ComesFirst op worker call.op call.worker) calls → ((bag' : List ℕ) → Served bag' calls) → Served bag (record { worker = worker; leaf = leaf; op = op } ∷ calls)
-served_step bag (CounterAdd number a) worker leaf calls is all first ih = absurd cc
-served_step bag (Push number a) worker leaf calls is all first ih = absurd cc
-served_step bag (Pop number) worker leaf calls is all first ih = absurd cc
-served_step bag (TreeInsert number a) worker leaf calls is all first ih = absurd cc
-served_step bag (TreeRemove number a) worker leaf calls is all first ih = absurd cc
-served_step bag (TreeFind number a) worker leaf calls is all first ih = absurd cc
-served_step bag (TreeNext number a) worker leaf calls is all first ih = absurd cc
 served_step bag (PqInsert number a) worker leaf calls is all first ih =
     let same : 0 + takes_of calls ≡ takes_of calls = omega arith in
     rw same (ih (with_item a bag))
@@ -76,6 +57,7 @@ served_step bag (PqTake number) worker leaf calls is all first ih =
     let rest = rw none at (ih (without_least bag)) in
     let one : 1 + takes_of calls ≡ suc (takes_of calls) = omega arith in
     rw (none, one) rest
+served_step bag _ worker leaf calls is all first ih = absurd cc
 
 pub serial_after : (bag : List ℕ) (calls : List Call) → AreOf Queue calls → AreInBatchOrder calls
     → Served bag calls

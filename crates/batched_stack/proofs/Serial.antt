@@ -4,7 +4,7 @@ use Rattle.std.specs.List.{AllByRecursion}
 use Rattle.std.proofs.lemmas.List.{take-take}
 use Rattle.std.proofs.lemmas.Grind.{common_steps}
 use Rattle.seq_objects.specs.declared.op.Op.{Op}
-use Rattle.seq_objects.specs.declared.op.Op.TheVariants.{CounterAdd, Push, Pop, TreeInsert, TreeRemove, TreeFind, TreeNext, PqInsert, PqTake}
+use Rattle.seq_objects.specs.declared.op.Op.TheVariants.{Push, Pop}
 use Rattle.seq_objects.specs.declared.call.Call.{Call}
 use Rattle.seq_objects.specs.declared.reply.Reply.{Reply}
 use Rattle.seq_objects.specs.declared.reply.Reply.TheVariants as reply
@@ -26,13 +26,7 @@ popped_off items (suc pops) = popped_off (without_top items) pops
 push_is_no_later : (popped : ℕ) (op : Op) (worker later : ℕ) (calls : List Call) → ComesFirst (Pop popped) worker op later → kind_of op ≡ Stack → pushes_of calls ≡ [] → pushes_of (record { worker = later; leaf = 0; op = op } ∷ calls) ≡ []
 push_is_no_later popped (Push number item) worker later calls first is none = elim first [ inl less ↦ absurd (omega (arith, less)) | inr same ↦ absurd (omega (arith, same.0)) ]
 push_is_no_later popped (Pop number) worker later calls first is none = none
-push_is_no_later popped (CounterAdd number a) worker later calls first is none = absurd cc
-push_is_no_later popped (TreeInsert number a) worker later calls first is none = absurd cc
-push_is_no_later popped (TreeRemove number a) worker later calls first is none = absurd cc
-push_is_no_later popped (TreeFind number a) worker later calls first is none = absurd cc
-push_is_no_later popped (TreeNext number a) worker later calls first is none = absurd cc
-push_is_no_later popped (PqInsert number a) worker later calls first is none = absurd cc
-push_is_no_later popped (PqTake number) worker later calls first is none = absurd cc
+push_is_no_later popped _ worker later calls first is none = absurd cc
 
 -- no push comes after a pop
 no_push_later : (popped worker : ℕ) (calls : List Call)
@@ -57,13 +51,7 @@ pop_leaves items puts pops none =
 replies_step : (items : List ℕ) (op : Op) (worker leaf : ℕ) (calls : List Call) → kind_of op ≡ Stack → AllByRecursion (λ later. ComesFirst op worker later.op later.worker) calls → AreOf Stack calls → ((xs : List ℕ) → replies_to_all (of_stack xs) calls ≡ replicate (length (pushes_of calls)) reply.Unit ++ pop_replies (xs ++ pushes_of calls) (pops_of calls)) → replies_to_all (of_stack items) (record { worker = worker; leaf = leaf; op = op } ∷ calls) ≡ replicate (length (pushes_of (record { worker = worker; leaf = leaf; op = op } ∷ calls))) reply.Unit ++ pop_replies (items ++ pushes_of (record { worker = worker; leaf = leaf; op = op } ∷ calls)) (pops_of (record { worker = worker; leaf = leaf; op = op } ∷ calls))
 replies_step items (Push number item) worker leaf calls is first of later = let none : 0 + pops_of calls ≡ pops_of calls = omega arith in rw none (ap (λ rs. reply.Unit ∷ rs) (later (items ++ item ∷ []) ∙ ap (λ xs. replicate (length (pushes_of calls)) reply.Unit ++ pop_replies xs (pops_of calls)) (append_assoc items (item ∷ []) (pushes_of calls))))
 replies_step items (Pop number) worker leaf calls is first of later = ap (λ rs. number_or_empty (top items) ∷ rs) (later (without_top items)) ∙ pop_reply items (pushes_of calls) (pops_of calls) (no_push_later number worker calls first of)
-replies_step items (CounterAdd number a) worker leaf calls is first of later = absurd cc
-replies_step items (TreeInsert number a) worker leaf calls is first of later = absurd cc
-replies_step items (TreeRemove number a) worker leaf calls is first of later = absurd cc
-replies_step items (TreeFind number a) worker leaf calls is first of later = absurd cc
-replies_step items (TreeNext number a) worker leaf calls is first of later = absurd cc
-replies_step items (PqInsert number a) worker leaf calls is first of later = absurd cc
-replies_step items (PqTake number) worker leaf calls is first of later = absurd cc
+replies_step items _ worker leaf calls is first of later = absurd cc
 
 -- the replies to a batch: done for each push, and then those to the pops
 pub serial_replies : (items : List ℕ) (calls : List Call) → AreOf Stack calls
@@ -75,13 +63,7 @@ serial_replies items (call ∷ calls) of order = replies_step items call.op call
 after_step : (items : List ℕ) (op : Op) (worker leaf : ℕ) (calls : List Call) → kind_of op ≡ Stack → AllByRecursion (λ later. ComesFirst op worker later.op later.worker) calls → AreOf Stack calls → ((xs : List ℕ) → after_all (of_stack xs) calls ≡ of_stack (popped_off (xs ++ pushes_of calls) (pops_of calls))) → after_all (of_stack items) (record { worker = worker; leaf = leaf; op = op } ∷ calls) ≡ of_stack (popped_off (items ++ pushes_of (record { worker = worker; leaf = leaf; op = op } ∷ calls)) (pops_of (record { worker = worker; leaf = leaf; op = op } ∷ calls)))
 after_step items (Push number item) worker leaf calls is first of later = let none : 0 + pops_of calls ≡ pops_of calls = omega arith in rw none (later (items ++ item ∷ []) ∙ ap (λ xs. of_stack (popped_off xs (pops_of calls))) (append_assoc items (item ∷ []) (pushes_of calls)))
 after_step items (Pop number) worker leaf calls is first of later = later (without_top items) ∙ ap of_stack (pop_leaves items (pushes_of calls) (pops_of calls) (no_push_later number worker calls first of))
-after_step items (CounterAdd number a) worker leaf calls is first of later = absurd cc
-after_step items (TreeInsert number a) worker leaf calls is first of later = absurd cc
-after_step items (TreeRemove number a) worker leaf calls is first of later = absurd cc
-after_step items (TreeFind number a) worker leaf calls is first of later = absurd cc
-after_step items (TreeNext number a) worker leaf calls is first of later = absurd cc
-after_step items (PqInsert number a) worker leaf calls is first of later = absurd cc
-after_step items (PqTake number) worker leaf calls is first of later = absurd cc
+after_step items _ worker leaf calls is first of later = absurd cc
 
 serial_off : (items : List ℕ) (calls : List Call) → AreOf Stack calls → AreInBatchOrder calls
     → after_all (of_stack items) calls ≡ of_stack (popped_off (items ++ pushes_of calls) (pops_of calls))

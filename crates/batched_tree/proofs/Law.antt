@@ -12,7 +12,7 @@ use Rattle.key_sets.proofs.KeyLemmas.Ascending.{all_map}
 use Rattle.key_sets.proofs.KeyLemmas.Sides.{is_less, is_not_less, all_below, all_from, both_sides, ascends_from}
 use Rattle.seq_objects.specs.declared.op.Op.{Op}
 use Rattle.batched_tree.specs.Code.Sides.{calls_below, calls_from}
-use Rattle.seq_objects.specs.declared.op.Op.TheVariants.{CounterAdd, Push, Pop, TreeInsert, TreeRemove, TreeFind, TreeNext, PqInsert, PqTake}
+use Rattle.seq_objects.specs.declared.op.Op.TheVariants.{TreeNext}
 use Rattle.seq_objects.specs.declared.call.Call.{Call}
 use Rattle.seq_objects.specs.declared.reply.Reply.{Reply}
 use Rattle.seq_objects.specs.declared.reply.Reply.TheVariants.{Number, Unit as Done, Empty, Yes, No}
@@ -64,15 +64,8 @@ or_none Yes = refl
 or_none No = refl
 
 within_none : (op : Op) (reply : Reply) → reply_within None op reply ≡ reply
-within_none (CounterAdd number addend) reply = refl
-within_none (Push number item) reply = refl
-within_none (Pop number) reply = refl
-within_none (TreeInsert number key) reply = refl
-within_none (TreeRemove number key) reply = refl
-within_none (TreeFind number key) reply = refl
 within_none (TreeNext number key) reply = or_none reply
-within_none (PqInsert number item) reply = refl
-within_none (PqTake number) reply = refl
+within_none _ reply = refl
 
 replies_none : (objects : Objects) (calls : List Call)
     → replies_within None objects calls ≡ replies_to_all objects calls

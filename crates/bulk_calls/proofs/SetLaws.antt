@@ -1,10 +1,10 @@
 -- An operation on a key of a set touches what stands at that key alone.
-use Rattle.std.proofs.Common.{◌≡◌, ℕ, ◌<◌, ◌≤◌, List, [], ◌∷◌, ◌++◌, Bool, true, false, not, refl, ap, ◌∙◌, sym}
+use Rattle.std.proofs.Common.{◌≡◌, ℕ, ◌<◌, ◌≤◌, List, [], ◌∷◌, ◌++◌, Bool, true, false, not, refl, ap}
 use Rattle.std.specs.List.{AllByRecursion}
-use Rattle.key_sets.specs.Keys.{StrictlyAscends, has}
+use Rattle.key_sets.specs.Keys.{StrictlyAscends}
 use Rattle.key_sets.proofs.KeyLemmas.Ascending.{all_with, all_without, ascends_with, ascends_without}
 use Rattle.key_sets.proofs.KeyLemmas.Beside.{has_low, has_high, with_low, with_high, without_low, without_high}
-use Rattle.keyed_pieces.specs.Keyed.{AscendsBy, AreBelow, AreFrom, AreKeyed, after_each}
+use Rattle.keyed_pieces.specs.Keyed.{AscendsBy, AreKeyed, after_each}
 use Rattle.seq_objects.specs.Objects.{yes_or_no}
 use Rattle.bulk_calls.specs.declared.op.BulkKind.{BulkKind}
 use Rattle.bulk_calls.specs.declared.op.BulkKind.TheVariants.{Insert, Remove, Find}
@@ -28,8 +28,7 @@ low_after cut low high Find key less up = refl
 
 low_reply : (cut : ℕ) (low high : List ℕ) (kind : BulkKind) (key : ℕ) → key < cut → AllByRecursion (λ k. cut ≤ k) high → answer kind (low ++ high) key ≡ answer kind low key
 low_reply cut low high Insert key less up = ap (λ b. is_yes (yes_or_no (not b))) (has_low key cut low high less up)
-low_reply cut low high Remove key less up = ap (λ b. is_yes (yes_or_no b)) (has_low key cut low high less up)
-low_reply cut low high Find key less up = ap (λ b. is_yes (yes_or_no b)) (has_low key cut low high less up)
+low_reply cut low high _ key less up = ap (λ b. is_yes (yes_or_no b)) (has_low key cut low high less up)
 
 high_after : (cut : ℕ) (low high : List ℕ) (kind : BulkKind) (key : ℕ) → cut ≤ key → AllByRecursion (λ k. k < cut) low → after_key kind (low ++ high) key ≡ low ++ after_key kind high key
 high_after cut low high Insert key le down = with_high key cut low high le down
@@ -38,8 +37,7 @@ high_after cut low high Find key le down = refl
 
 high_reply : (cut : ℕ) (low high : List ℕ) (kind : BulkKind) (key : ℕ) → cut ≤ key → AllByRecursion (λ k. k < cut) low → answer kind (low ++ high) key ≡ answer kind high key
 high_reply cut low high Insert key le down = ap (λ b. is_yes (yes_or_no (not b))) (has_high key cut low high le down)
-high_reply cut low high Remove key le down = ap (λ b. is_yes (yes_or_no b)) (has_high key cut low high le down)
-high_reply cut low high Find key le down = ap (λ b. is_yes (yes_or_no b)) (has_high key cut low high le down)
+high_reply cut low high _ key le down = ap (λ b. is_yes (yes_or_no b)) (has_high key cut low high le down)
 
 keeps : (P : ℕ → Type 0) (kind : BulkKind) (key : ℕ) (set : List ℕ) → P key → AllByRecursion P set → AllByRecursion P (after_key kind set key)
 keeps P Insert key set here each = all_with P key set here each

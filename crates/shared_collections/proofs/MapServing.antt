@@ -15,7 +15,7 @@ use Rattle.batched_map.proofs.OneBatch.{permutes}
 use Rattle.shared_calls.specs.Serial.{replies_to_all, after_all}
 use Rattle.shared_calls.proofs.Batches.{every_shuffled}
 use Rattle.shared_collections.specs.declared.ranked.RankedOp.{RankedOp}
-use Rattle.shared_collections.specs.declared.ranked.RankedOp.TheVariants.{Put, Remove, Get, Rank, Nth}
+use Rattle.shared_collections.specs.declared.ranked.RankedOp.TheVariants.{Put, Get, Rank, Nth}
 use Rattle.shared_collections.specs.declared.ranked.RankedReply.TheVariants.{Value, Key}
 use Rattle.shared_collections.specs.Maps.{ranked_map, entries_after, map_reply}
 use Rattle.shared_collections.specs.Code.Numbers.{AreSmall, IsSmall, number_in}
@@ -42,10 +42,7 @@ own_is entries (op.Nth index) = ap Key (number_back (key_at index entries))
 
 after_is : (entries : List Entry) (asked : MapOp) → after entries asked ≡ entries_after entries (op_of asked)
 after_is entries (op.Put key val) = refl
-after_is entries (op.Del key) = refl
-after_is entries (op.Get key) = refl
-after_is entries (op.Rank key) = refl
-after_is entries (op.Nth index) = refl
+after_is entries _ = refl
 
 -- the replies to calls, and the entries after them
 pub replies_are : (entries : List Entry) (calls : List MapCall) → own_replies calls (map_replies entries (operations calls)) ≡ replies_to_all ranked_map entries (map what calls)
@@ -78,10 +75,7 @@ places_from n (op ∷ asked) = ap (λ l. n ∷ l) (rw add-one (places_from (suc 
 
 op_back : (op : RankedOp) → op_of (asked_of op) ≡ op
 op_back (Put key value) = refl
-op_back (Remove key) = refl
-op_back (Get key) = refl
-op_back (Rank key) = refl
-op_back (Nth index) = refl
+op_back _ = refl
 
 ops_from : (n : ℕ) (ops : List RankedOp) → map what (numbered n (map asked_of ops)) ≡ ops
 ops_from n [] = refl
@@ -138,9 +132,7 @@ number_small o small = subst IsSmall (sym (number_back o)) small
 after_small : (entries : List Entry) (asked : MapOp) → AreSmallEntries entries → IsSmallOp asked → AreSmallEntries (after entries asked)
 after_small entries (op.Put key val) small own = with_small key val entries own.0 own.1 small
 after_small entries (op.Del key) small own = without_small key entries small
-after_small entries (op.Get key) small own = small
-after_small entries (op.Rank key) small own = small
-after_small entries (op.Nth index) small own = small
+after_small entries _ small own = small
 
 reply_small : (entries : List Entry) (asked : MapOp) → AreSmallEntries entries → IsSmallReply asked (reply_to entries asked)
 reply_small entries (op.Put key val) small = number_small (value_at key entries) (value_small key entries small)

@@ -7,7 +7,7 @@ use Rattle.key_sets.proofs.KeyLemmas.Ascending.{all_with, all_without}
 use Rattle.key_sets.proofs.KeyLemmas.Beside.{has_low, has_high, with_low, with_high, without_low, without_high, next_high}
 use Rattle.std.proofs.lemmas.Bool.{cases_lt}
 use Rattle.seq_objects.specs.declared.op.Op.{Op}
-use Rattle.seq_objects.specs.declared.op.Op.TheVariants.{CounterAdd, Push, Pop, TreeInsert, TreeRemove, TreeFind, TreeNext, PqInsert, PqTake}
+use Rattle.seq_objects.specs.declared.op.Op.TheVariants.{TreeInsert, TreeRemove, TreeFind, TreeNext}
 use Rattle.seq_objects.specs.declared.call.Call.{Call}
 use Rattle.seq_objects.specs.declared.reply.Reply.{Reply}
 use Rattle.seq_objects.specs.declared.reply.Reply.TheVariants.{Empty}
@@ -26,39 +26,23 @@ shared b (call ∷ calls) lows highs = if nat_lt (key_of call) b then get_or low
 
 -- the effect of an operation of the tree on a set
 abbrev pub changed : Op → List ℕ → List ℕ
-changed (CounterAdd number addend) set = set
-changed (Push number item) set = set
-changed (Pop number) set = set
 changed (TreeInsert number key) set = with_key key set
 changed (TreeRemove number key) set = without_key key set
-changed (TreeFind number key) set = set
-changed (TreeNext number key) set = set
-changed (PqInsert number item) set = set
-changed (PqTake number) set = set
+changed _ set = set
 
 pub changes : (op : Op) (set : List ℕ) → kind_of op ≡ Tree
     → after (of_set set) op ≡ of_set (changed op set)
-changes (CounterAdd number addend) set is = absurd cc
-changes (Push number item) set is = absurd cc
-changes (Pop number) set is = absurd cc
 changes (TreeInsert number key) set is = refl
 changes (TreeRemove number key) set is = refl
 changes (TreeFind number key) set is = refl
 changes (TreeNext number key) set is = refl
-changes (PqInsert number item) set is = absurd cc
-changes (PqTake number) set is = absurd cc
+changes _ set is = absurd cc
 
 keeps : (P : ℕ → Type 0) (op : Op) (set : List ℕ) → P (argument_of op) → AllByRecursion P set
     → AllByRecursion P (changed op set)
-keeps P (CounterAdd number addend) set here each = each
-keeps P (Push number item) set here each = each
-keeps P (Pop number) set here each = each
 keeps P (TreeInsert number key) set here each = all_with P key set here each
 keeps P (TreeRemove number key) set here each = all_without P key set each
-keeps P (TreeFind number key) set here each = each
-keeps P (TreeNext number key) set here each = each
-keeps P (PqInsert number item) set here each = each
-keeps P (PqTake number) set here each = each
+keeps P _ set here each = each
 
 -- an operation whose key is on the lower side
 pub record IsLow (beyond : Option ℕ) (low high : List ℕ) (op : Op) (new : List ℕ) : Type 0 where
@@ -93,15 +77,11 @@ low_next beyond number key b low high less up (inr update) = absurd (omega arith
 low_step : (beyond : Option ℕ) (b : ℕ) (low high : List ℕ) (op : Op) → kind_of op ≡ Tree
     → argument_of op < b → AllByRecursion (λ k. b ≤ k) high → IsBeyond beyond high op
     → IsLow beyond low high op (changed op low)
-low_step beyond b low high (CounterAdd number addend) is less up known = absurd cc
-low_step beyond b low high (Push number item) is less up known = absurd cc
-low_step beyond b low high (Pop number) is less up known = absurd cc
 low_step beyond b low high (TreeInsert number key) is less up known = record { reply = ap (λ t. yes_or_no (not t)) (has_low key b low high less up); whole = ap of_set (with_low key b low high less up) }
 low_step beyond b low high (TreeRemove number key) is less up known = record { reply = ap yes_or_no (has_low key b low high less up); whole = ap of_set (without_low key b low high less up) }
 low_step beyond b low high (TreeFind number key) is less up known = record { reply = ap yes_or_no (has_low key b low high less up); whole = refl }
 low_step beyond b low high (TreeNext number key) is less up known = record { reply = low_next beyond number key b low high less up known; whole = refl }
-low_step beyond b low high (PqInsert number item) is less up known = absurd cc
-low_step beyond b low high (PqTake number) is less up known = absurd cc
+low_step beyond b low high _ is less up known = absurd cc
 
 -- an operation whose key is on the upper side
 pub record IsHigh (low high : List ℕ) (op : Op) (new : List ℕ) : Type 0 where
@@ -111,28 +91,20 @@ pub record IsHigh (low high : List ℕ) (op : Op) (new : List ℕ) : Type 0 wher
 high_step : (b : ℕ) (low high : List ℕ) (op : Op) → kind_of op ≡ Tree → b ≤ argument_of op
     → AllByRecursion (λ k. k < b) low
     → IsHigh low high op (changed op high)
-high_step b low high (CounterAdd number addend) is le down = absurd cc
-high_step b low high (Push number item) is le down = absurd cc
-high_step b low high (Pop number) is le down = absurd cc
 high_step b low high (TreeInsert number key) is le down = record { reply = ap (λ t. yes_or_no (not t)) (has_high key b low high le down); whole = ap of_set (with_high key b low high le down) }
 high_step b low high (TreeRemove number key) is le down = record { reply = ap yes_or_no (has_high key b low high le down); whole = ap of_set (without_high key b low high le down) }
 high_step b low high (TreeFind number key) is le down = record { reply = ap yes_or_no (has_high key b low high le down); whole = refl }
 high_step b low high (TreeNext number key) is le down = record { reply = ap number_or_empty (next_high key b low high le down); whole = refl }
-high_step b low high (PqInsert number item) is le down = absurd cc
-high_step b low high (PqTake number) is le down = absurd cc
+high_step b low high _ is le down = absurd cc
 
 -- a query leaves the set as it is
 query_or_update : (op : Op) (set : List ℕ) → kind_of op ≡ Tree
     → (changed op set ≡ set) ⊎ (4 ≤ class_of op)
-query_or_update (CounterAdd number addend) set is = absurd cc
-query_or_update (Push number item) set is = absurd cc
-query_or_update (Pop number) set is = absurd cc
 query_or_update (TreeInsert number key) set is = inr (omega arith)
 query_or_update (TreeRemove number key) set is = inr (omega arith)
 query_or_update (TreeFind number key) set is = inl refl
 query_or_update (TreeNext number key) set is = inl refl
-query_or_update (PqInsert number item) set is = absurd cc
-query_or_update (PqTake number) set is = absurd cc
+query_or_update _ set is = absurd cc
 
 abbrev pub AreUpdates : List Call → Type 0
 AreUpdates calls = AllByRecursion (λ call. 4 ≤ class_of call.op) calls

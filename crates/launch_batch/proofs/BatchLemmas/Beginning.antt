@@ -60,9 +60,7 @@ some_by_kind calls ordered same some =
 
 opening_alone : (kind : ObjectKind) → opening ≡ alone kind opening
 opening_alone Counter = refl
-opening_alone Stack = refl
-opening_alone Tree = refl
-opening_alone Queue = refl
+opening_alone _ = refl
 
 -- without structures and batches
 pub none_kept : {T R : Type 0} (content : T → Objects) (kind : ObjectKind) (row : Row T R) (history : List (List Entry)) → row.called.items ≡ [] → ((number : ℕ) → structure_at row.closed number ≡ None)

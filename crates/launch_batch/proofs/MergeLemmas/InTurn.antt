@@ -2,7 +2,7 @@
 use Rattle.std.proofs.Common.{ℕ, ◌≡◌, ◌<◌, ◌≤◌, inl, inr, Bool, true, false, cond, List, [], ◌∷◌, ◌++◌, length, refl, ap, sym, subst, arith}
 use Rattle.launch_batch.proofs.Words.{AllByRecursion, Call, Reply, Store, store_replies, ObjectKind, Counter, Stack, Tree, Queue, AreInBatchOrder, kind_of, same_kind, calls_of, replies_of, store_of_kind}
 use Rattle.seq_objects.specs.declared.op.Op.{Op}
-use Rattle.seq_objects.specs.declared.op.Op.TheVariants.{CounterAdd, Push, Pop, TreeInsert, TreeRemove, TreeFind, TreeNext, PqInsert, PqTake}
+use Rattle.seq_objects.specs.declared.op.Op.TheVariants.{CounterAdd}
 use Rattle.seq_objects.specs.BatchOrder.{ComesFirst, class_of}
 use Rattle.seq_objects.proofs.Elements.{each_so}
 use Rattle.seq_objects.proofs.Filters.{same_is}
@@ -24,25 +24,11 @@ greatest Queue = 6
 
 at_least : (op : Op) → least (kind_of op) ≤ class_of op
 at_least (CounterAdd number addend) = omega arith
-at_least (Push number item) = omega arith
-at_least (Pop number) = omega arith
-at_least (TreeInsert number key) = omega arith
-at_least (TreeRemove number key) = omega arith
-at_least (TreeFind number key) = omega arith
-at_least (TreeNext number key) = omega arith
-at_least (PqInsert number item) = omega arith
-at_least (PqTake number) = omega arith
+at_least _ = omega arith
 
 at_most : (op : Op) → class_of op ≤ greatest (kind_of op)
 at_most (CounterAdd number addend) = omega arith
-at_most (Push number item) = omega arith
-at_most (Pop number) = omega arith
-at_most (TreeInsert number key) = omega arith
-at_most (TreeRemove number key) = omega arith
-at_most (TreeFind number key) = omega arith
-at_most (TreeNext number key) = omega arith
-at_most (PqInsert number item) = omega arith
-at_most (PqTake number) = omega arith
+at_most _ = omega arith
 
 -- no operation of an earlier kind comes after one of a later kind
 never_after : (kind : ObjectKind) (op : Op) (worker : ℕ) (later : Op) (of : ℕ) → greatest kind < least (kind_of op) → ComesFirst op worker later of → same_kind kind (kind_of later) ≡ false

@@ -7,7 +7,7 @@ use Rattle.rank_nodes.specs.declared.node.Tree.{Tree}
 use Rattle.rank_nodes.specs.declared.node.Split.{Split}
 use Rattle.rank_nodes.specs.declared.node.Split.TheVariants.{Fits, Splits}
 use Rattle.rank_nodes.specs.declared.insert.Outcome.{Outcome}
-use Rattle.rank_nodes.specs.declared.insert.Outcome.TheVariants.{Replaced, Added, Full, OutOfMemory}
+use Rattle.rank_nodes.specs.declared.insert.Outcome.TheVariants.{Replaced, Added}
 use Rattle.rank_nodes.specs.Maps.{Ascends, value_at}
 use Rattle.rank_nodes.specs.Nodes.{entries, depth, count, IsTree, IsMap, IsTreeWithSplit}
 use Rattle.rank_nodes.specs.Code.Insertions.{IsPut, IsOutcome, added_by, OnSplits, IsSpent}
@@ -53,14 +53,12 @@ put_insert key val at xs new cut none new_is = record { is = new_is ∙ sym (wit
 pub outcome_left : (key val : ℕ) (k : Entry) (a b a' new : List Entry) (outcome : Outcome) → Ascends (a ++ k ∷ b) → key < k.key → IsOutcome key val a a' outcome → new ≡ a' ++ k ∷ b → IsOutcome key val (a ++ k ∷ b) new outcome
 outcome_left key val k a b a' new (Replaced was) up less i is = rw is (put_left key val k a b a' (Some was) up less i)
 outcome_left key val k a b a' new Added up less i is = rw is (put_left key val k a b a' None up less i)
-outcome_left key val k a b a' new Full up less i is = is ∙ ap (λ z. z ++ k ∷ b) i
-outcome_left key val k a b a' new OutOfMemory up less i is = is ∙ ap (λ z. z ++ k ∷ b) i
+outcome_left key val k a b a' new _ up less i is = is ∙ ap (λ z. z ++ k ∷ b) i
 
 pub outcome_right : (key val : ℕ) (k : Entry) (a b b' new : List Entry) (outcome : Outcome) → Ascends (a ++ k ∷ b) → k.key < key → IsOutcome key val b b' outcome → new ≡ a ++ k ∷ b' → IsOutcome key val (a ++ k ∷ b) new outcome
 outcome_right key val k a b b' new (Replaced was) up more i is = rw is (put_right key val k a b b' (Some was) up more i)
 outcome_right key val k a b b' new Added up more i is = rw is (put_right key val k a b b' None up more i)
-outcome_right key val k a b b' new Full up more i is = is ∙ ap (λ z. a ++ k ∷ z) i
-outcome_right key val k a b b' new OutOfMemory up more i is = is ∙ ap (λ z. a ++ k ∷ z) i
+outcome_right key val k a b b' new _ up more i is = is ∙ ap (λ z. a ++ k ∷ z) i
 
 pub outcome_middle : (key val : ℕ) (k m : Entry) (a b c b' new : List Entry) (outcome : Outcome) → Ascends (a ++ k ∷ (b ++ m ∷ c)) → k.key < key → key < m.key → IsOutcome key val b b' outcome → new ≡ a ++ k ∷ (b' ++ m ∷ c) → IsOutcome key val (a ++ k ∷ (b ++ m ∷ c)) new outcome
 outcome_middle key val k m a b c b' new outcome up more less i is =
@@ -73,9 +71,7 @@ outcome_last key val k m a b c c' new outcome up more more' i is =
 -- at most one entry is added
 pub added_few : (outcome : Outcome) → added_by outcome ≤ 1
 added_few (Replaced was) = omega arith
-added_few Added = omega arith
-added_few Full = omega arith
-added_few OutOfMemory = omega arith
+added_few _ = omega arith
 
 -- enough boxes for the nodes above a split
 pub boxes_below : (split : Split) (above count : ℕ) → OnSplits split (above + 1 < count) → OnSplits split (0 < count)

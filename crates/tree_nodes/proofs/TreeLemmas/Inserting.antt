@@ -7,7 +7,7 @@ use Rattle.tree_nodes.specs.Code.Insertions.{IsInserted, IsOutcome, OnSplits, Is
 use Rattle.tree_nodes.specs.declared.node.Split.{Split}
 use Rattle.tree_nodes.specs.declared.node.Split.TheVariants.{Fits, Splits}
 use Rattle.tree_nodes.specs.declared.insert.Outcome.{Outcome}
-use Rattle.tree_nodes.specs.declared.insert.Outcome.TheVariants.{Found, Added, Full, OutOfMemory}
+use Rattle.tree_nodes.specs.declared.insert.Outcome.TheVariants.{Found, Added}
 use Rattle.key_sets.proofs.KeyLemmas.Ascending.{ascends_front, ascends_after}
 use Rattle.tree_nodes.proofs.TreeLemmas.Adding.{added_left, added_right, found_left, found_right}
 use Rattle.key_sets.proofs.KeyLemmas.Beside.{with_present}
@@ -28,14 +28,12 @@ set_inserted key old new added s tree i small = set_with key old new s tree (ins
 pub outcome_left : (key k : ℕ) (a b a' new : List ℕ) (outcome : Outcome) → StrictlyAscends (a ++ k ∷ b) → key < k → IsOutcome key a a' outcome → new ≡ a' ++ k ∷ b → IsOutcome key (a ++ k ∷ b) new outcome
 outcome_left key k a b a' new Found s lt i is = rw is (found_left key k a b a' s lt i)
 outcome_left key k a b a' new Added s lt i is = rw is (added_left key k a b a' s lt i)
-outcome_left key k a b a' new Full s lt i is = is ∙ ap (λ z. z ++ k ∷ b) i
-outcome_left key k a b a' new OutOfMemory s lt i is = is ∙ ap (λ z. z ++ k ∷ b) i
+outcome_left key k a b a' new _ s lt i is = is ∙ ap (λ z. z ++ k ∷ b) i
 
 pub outcome_right : (key k : ℕ) (a b b' new : List ℕ) (outcome : Outcome) → StrictlyAscends (a ++ k ∷ b) → k < key → IsOutcome key b b' outcome → new ≡ a ++ k ∷ b' → IsOutcome key (a ++ k ∷ b) new outcome
 outcome_right key k a b b' new Found s gt i is = rw is (found_right key k a b b' s gt i)
 outcome_right key k a b b' new Added s gt i is = rw is (added_right key k a b b' s gt i)
-outcome_right key k a b b' new Full s gt i is = is ∙ ap (λ z. a ++ k ∷ z) i
-outcome_right key k a b b' new OutOfMemory s gt i is = is ∙ ap (λ z. a ++ k ∷ z) i
+outcome_right key k a b b' new _ s gt i is = is ∙ ap (λ z. a ++ k ∷ z) i
 
 pub outcome_middle : (key k m : ℕ) (a b c b' new : List ℕ) (outcome : Outcome) → StrictlyAscends (a ++ k ∷ (b ++ m ∷ c)) → k < key → key < m → IsOutcome key b b' outcome → new ≡ a ++ k ∷ (b' ++ m ∷ c) → IsOutcome key (a ++ k ∷ (b ++ m ∷ c)) new outcome
 outcome_middle key k m a b c b' new outcome s gt lt i is =

@@ -8,31 +8,23 @@ use Rattle.tree_nodes.specs.Code.Removals.{has_one_side, IsPair, IsTriple}
 
 pub loose_of_tree : (a : Tree) → IsTree a → IsLoose a
 loose_of_tree Empty t = tt
-loose_of_tree (Leaf a) t = t
 loose_of_tree (Underfull' p x k y m z) t = absurd t
-loose_of_tree (Two' p x k y m z) t = t
-loose_of_tree (Three' p x k y m z) t = t
+loose_of_tree _ t = t
 
 tree_of_loose : (a : Tree) → IsLoose a → has_one_side a ≡ false → IsTree a
 tree_of_loose Empty l whole = tt
-tree_of_loose (Leaf a) l whole = l
 tree_of_loose (Underfull' p x k y m z) l whole = absurd (cc)
-tree_of_loose (Two' p x k y m z) l whole = l
-tree_of_loose (Three' p x k y m z) l whole = l
+tree_of_loose _ l whole = l
 
 pub pair_of_first : (a b : Tree) → IsLoose a → IsTree b → IsPair a b
 pair_of_first Empty b l t = loose_of_tree b t
-pair_of_first (Leaf a) b l t = (l, loose_of_tree b t)
 pair_of_first (Underfull' p x k y m z) b l t = (l, t)
-pair_of_first (Two' p x k y m z) b l t = (l, loose_of_tree b t)
-pair_of_first (Three' p x k y m z) b l t = (l, loose_of_tree b t)
+pair_of_first _ b l t = (l, loose_of_tree b t)
 
 pub pair_of_second : (a b : Tree) → IsTree a → IsLoose b → IsPair a b
 pair_of_second Empty b t l = l
-pair_of_second (Leaf a) b t l = (t, l)
 pair_of_second (Underfull' p x k y m z) b t l = absurd t
-pair_of_second (Two' p x k y m z) b t l = (t, l)
-pair_of_second (Three' p x k y m z) b t l = (t, l)
+pair_of_second _ b t l = (t, l)
 
 pub triple_of_pair : (a b c : Tree) → IsPair a b → IsTree c → IsTriple a b c
 triple_of_pair a b Empty p t = p
@@ -49,10 +41,8 @@ triple_of_second a b c t l t' = triple_of_pair a b c (pair_of_second a b t l) t'
 
 pub triple_of_third : (a b c : Tree) → IsTree a → IsTree b → IsLoose c → IsTriple a b c
 triple_of_third a b Empty t t' l = pair_of_second a b t (loose_of_tree b t')
-triple_of_third a b (Leaf c) t t' l = (pair_of_second a b t (loose_of_tree b t'), l)
 triple_of_third a b (Underfull' p x k y m z) t t' l = (t, t', l)
-triple_of_third a b (Two' p x k y m z) t t' l = (pair_of_second a b t (loose_of_tree b t'), l)
-triple_of_third a b (Three' p x k y m z) t t' l = (pair_of_second a b t (loose_of_tree b t'), l)
+triple_of_third a b _ t t' l = (pair_of_second a b t (loose_of_tree b t'), l)
 
 -- siblings that are not underfull are trees
 pub trees_of_pair : (a b : Tree) → IsPair a b → has_one_side a ≡ false → has_one_side b ≡ false → IsTree a × IsTree b

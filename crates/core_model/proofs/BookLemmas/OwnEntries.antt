@@ -5,7 +5,7 @@ use Rattle.std.proofs.lemmas.Bool.Decides.{nat_tests}
 use Rattle.std.proofs.lemmas.Bool.{cases_eq}
 use Rattle.seq_objects.specs.Pairs.{AreDistinct}
 use Rattle.batch_history.specs.Book.{flat}
-use Rattle.core_model.proofs.Words.{LeafNode, IsPlan, Entry, Task, Idle, Run, Half, Started, Kept, Ended, Whole, Handed, Event, Claim, Start, OpenParRight, OpenParLeft, OpenSeqLeft, OpenSeqRight, Post, Win, Take, Publish, Answer, Release, Leave, Keep, End, FinishLeaf, FinishSeq, FinishPar, ArriveFirst, ArriveSecond, CoreJob, Hold, State, names}
+use Rattle.core_model.proofs.Words.{LeafNode, IsPlan, Entry, Task, Started, Event, Post, Publish, Keep, End, FinishLeaf, CoreJob, Hold, State, names}
 use Rattle.core_model.specs.Entries.{entries_of}
 use Rattle.core_model.specs.Events.{has_taken, Needs, Does, IsTakenCall, IsBatchOf}
 use Rattle.core_model.specs.Invariant.Hold.{HoldInvariant}
@@ -73,14 +73,8 @@ taken_still workers s hd w held unpublished h = rw held (by_answer (hd.taken w) 
 place_stays : (job : CoreJob) (old new : List (List Entry)) (task : Task)
     → ((n start : ℕ) → task ≡ Started n start → place_of new (leaf_of (job.plan.kind n)) ≡ place_of old (leaf_of (job.plan.kind n)))
     → task_place job new task ≡ task_place job old task
-place_stays job old new Idle h = refl
-place_stays job old new (Run n) h = refl
-place_stays job old new (Half n) h = refl
 place_stays job old new (Started n start) h = h n start refl
-place_stays job old new (Kept n start) h = refl
-place_stays job old new (Ended n start end) h = refl
-place_stays job old new (Whole n) h = refl
-place_stays job old new (Handed n) h = refl
+place_stays job old new _ h = refl
 
 module _ (job : CoreJob) (laws : IsPlan job.plan) (s : State) (h : InductiveParts job s) (x : ℕ) (needs : Needs job s x Publish) (b : List Entry) (batch : IsBatchOf job s b) (w : ℕ) where
   abbrev longer : List (List Entry)
@@ -153,22 +147,8 @@ module _ (job : CoreJob) (laws : IsPlan job.plan) (s : State) (h : InductivePart
 -- no other event changes the book
 pub same_book : (job : CoreJob) (old new : State) (x : ℕ) (event : Event) → Does job old x event new → event ≢ Publish → new.book ≡ old.book
 same_book job old new x Publish does other = absurd (other refl)
-same_book job old new x (Claim n) does other = ap (λ (t : State). t.book) does
-same_book job old new x (Start n) does other = ap (λ (t : State). t.book) does
-same_book job old new x (OpenParRight p l r) does other = ap (λ (t : State). t.book) does
-same_book job old new x (OpenParLeft p l r) does other = ap (λ (t : State). t.book) does
-same_book job old new x (OpenSeqLeft p l r) does other = ap (λ (t : State). t.book) does
-same_book job old new x (OpenSeqRight p l r) does other = ap (λ (t : State). t.book) does
 same_book job old new x (Post n t) does other = ap (λ (t : State). t.book) does
-same_book job old new x Win does other = ap (λ (t : State). t.book) does
-same_book job old new x (Take u) does other = ap (λ (t : State). t.book) does
-same_book job old new x (Answer u r) does other = ap (λ (t : State). t.book) does
-same_book job old new x Release does other = ap (λ (t : State). t.book) does
-same_book job old new x (Leave r) does other = ap (λ (t : State). t.book) does
 same_book job old new x (Keep n t v) does other = ap (λ (t : State). t.book) does
 same_book job old new x (End n t) does other = ap (λ (t : State). t.book) does
 same_book job old new x (FinishLeaf n t e) does other = ap (λ (t : State). t.book) does
-same_book job old new x (FinishSeq p l r) does other = ap (λ (t : State). t.book) does
-same_book job old new x (FinishPar p l r) does other = ap (λ (t : State). t.book) does
-same_book job old new x (ArriveFirst p l r n) does other = ap (λ (t : State). t.book) does
-same_book job old new x (ArriveSecond p l r n) does other = ap (λ (t : State). t.book) does
+same_book job old new x _ does other = ap (λ (t : State). t.book) does

@@ -3,7 +3,7 @@ use Rattle.std.proofs.Common.{ℕ, ◌≡◌, ◌≢◌, ◌<◌, Option, Some, 
 use Rattle.seq_objects.specs.Objects.{value_of}
 use Rattle.sp_order.specs.Sources.{with_value}
 use Rattle.batch_history.proofs.BookLemmas.Books.{found_in_book}
-use Rattle.core_model.proofs.Words.{Act, Work, Call, Op, LeafNode, Entry, Progress, Waiting, Ready, Taken, Done, Ran, Started, CoreJob, State}
+use Rattle.core_model.proofs.Words.{Act, Work, Call, Op, LeafNode, Entry, Progress, Ran, Started, CoreJob, State}
 use Rattle.core_model.specs.Invariant.{Parts}
 use Rattle.core_model.specs.Invariant.Hold.{is_published}
 use Rattle.core_model.specs.LeafSources.{HasReplied, HasSources, IsSourceAt}
@@ -16,11 +16,8 @@ use Rattle.core_model.proofs.BookLemmas.Operations.{of_source}
 
 -- what ran before a tick ran
 ran_of : (x : Progress) (tick : ℕ) → RanBefore x tick → (w : ℕ) × (a : ℕ) × (e : ℕ) × (x ≡ Ran w a e)
-ran_of Waiting tick h = absurd h
-ran_of Ready tick h = absurd h
-ran_of Taken tick h = absurd h
-ran_of Done tick h = absurd h
 ran_of (Ran w a e) tick h = (w, a, e, refl)
+ran_of _ tick h = absurd h
 
 -- a place with a worker
 place_by : (p : Option Place) (w : ℕ) → worker_at p ≡ Some w → (place : Place) × (p ≡ Some place)

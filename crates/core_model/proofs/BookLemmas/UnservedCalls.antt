@@ -2,7 +2,7 @@
 use Rattle.std.proofs.Common.{ℕ, ◌≡◌, ◌≢◌, ◌<◌, ◌≤◌, ◌+◌, Some, None, List, [], ◌∷◌, ◌++◌, length, map, arith, refl, sym, ap, ◌∙◌, subst, inl, inr, length-append}
 use Rattle.std.proofs.lemmas.List.{length-map}
 use Rattle.std.specs.List.{AllByRecursion}
-use Rattle.core_model.proofs.Words.{LeafNode, IsPlan, Entry, Taken, Task, Idle, Run, Half, Started, Kept, Ended, Whole, Handed, Out, CoreJob, State, names}
+use Rattle.core_model.proofs.Words.{LeafNode, IsPlan, Entry, Taken, Task, Started, Out, CoreJob, State, names}
 use Rattle.seq_objects.specs.Pairs.{AreDistinct}
 use Rattle.batch_history.specs.Book.{flat}
 use Rattle.core_model.specs.Choice.{leaf_named}
@@ -33,14 +33,8 @@ distinct_mapped f P tells (x ∷ xs) h distinct = (apart_mapped f P tells x h.0 
 
 -- a task that is at a call is started
 at_started : (job : CoreJob) (t : Task) → IsAtCall job t → (n : ℕ) × (start : ℕ) × (t ≡ Started n start) × IsCall job (leaf_of (job.plan.kind n))
-at_started job Idle h = absurd h
-at_started job (Run n) h = absurd h
-at_started job (Half n) h = absurd h
 at_started job (Started n start) h = (n, start, refl, h)
-at_started job (Kept n start) h = absurd h
-at_started job (Ended n start end) h = absurd h
-at_started job (Whole n) h = absurd h
-at_started job (Handed n) h = absurd h
+at_started job _ h = absurd h
 
 -- the call of worker w, whose leaf the book does not have
 record WaitingCall (job : CoreJob) (s : State) (w : ℕ) : Type 0 where

@@ -1,6 +1,6 @@
 -- The turns of the worker that has the flag: the choice is an event whose needs are met.
 use Rattle.std.proofs.Common.{ℕ, ◌≡◌, ◌≢◌, ◌≤◌, ◌&&◌, not, nat_lt, Bool, true, false, if◌then◌else◌, Option, Some, None, List, arith, refl, ltb-true, ltb-false}
-use Rattle.core_model.proofs.Words.{LeafNode, Entry, Progress, Taken, Task, Idle, Run, Half, Started, Kept, Ended, Whole, Handed, Status, Executing, CallState, Take, Publish, CoreJob, Hold, State, names}
+use Rattle.core_model.proofs.Words.{LeafNode, Entry, Progress, Taken, Task, Started, Status, Executing, CallState, Take, Publish, CoreJob, Hold, State, names}
 use Rattle.core_model.specs.Operations.{leaf_of, IsCall, Place, place_of}
 use Rattle.core_model.specs.Invariant.Tasks.{TaskFits}
 use Rattle.core_model.specs.Events.{Needs, Holds}
@@ -56,13 +56,7 @@ module _ (job : CoreJob) (s : State) (w : ℕ) (h : InductiveParts job s) (hd : 
   answer_task : (u : ℕ) (t : Task) → s.task u ≡ t → IsAtCall job t → TaskFits job.plan s.node s.mark t → hd.published ≡ true → hd.taken u ≡ true → hd.answered u ≡ false
       → s.status u ≡ Executing → Gives job s w (answer_with u (place_of s.book (leaf_named job.plan (names t))))
   answer_task u (Started n start) mine calls fits published took owed executing = answer_started u n start fits.0.0 published took owed executing calls mine fits.1 fits.0.1
-  answer_task u Idle mine calls fits published took owed executing = absurd calls
-  answer_task u (Run n) mine calls fits published took owed executing = absurd calls
-  answer_task u (Half p) mine calls fits published took owed executing = absurd calls
-  answer_task u (Kept n start) mine calls fits published took owed executing = absurd calls
-  answer_task u (Ended n start end) mine calls fits published took owed executing = absurd calls
-  answer_task u (Whole n) mine calls fits published took owed executing = absurd calls
-  answer_task u (Handed p) mine calls fits published took owed executing = absurd calls
+  answer_task u _ mine calls fits published took owed executing = absurd calls
 
   answer_gives : (o : Option ℕ) → least_below (is_owed hd) job.workers ≡ o → hd.looks ≡ job.workers → ((u : ℕ) → hd.taken u ≡ true → hd.published ≡ true)
       → Gives job s w (choice_answer job s o)

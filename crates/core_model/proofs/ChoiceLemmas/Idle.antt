@@ -3,7 +3,7 @@ use Rattle.std.proofs.Common.{ℕ, zero, suc, ◌≡◌, ◌≢◌, ◌<◌, ◌
 use Rattle.std.proofs.lemmas.Bool.Decides.{nat_tests}
 use Rattle.std.proofs.lemmas.Bool.{cases_eq, cases_lt}
 use Rattle.std.proofs.Math.Nat.{add-mod_right, mod-eq_of_lt}
-use Rattle.core_model.proofs.Words.{Progress, Ready, Idle, Free, Served, Receipt, Event, Claim, Start, OpenParRight, OpenParLeft, OpenSeqLeft, OpenSeqRight, Post, Win, Take, Publish, Answer, Release, Leave, Keep, End, FinishLeaf, FinishSeq, FinishPar, ArriveFirst, ArriveSecond, CoreJob, Hold, State}
+use Rattle.core_model.proofs.Words.{Progress, Ready, Idle, Free, Served, Receipt, Event, Claim, Win, Take, Publish, Answer, Release, Leave, CoreJob, Hold, State}
 use Rattle.core_model.specs.Lists.{times}
 use Rattle.core_model.specs.Invariant.ReadyLists.{ReadyListsInvariant}
 use Rattle.core_model.specs.Events.{Needs}
@@ -17,50 +17,25 @@ HoldsNot s w = (h : Hold) → s.hold ≡ Some h → h.worker ≢ w
 -- a trapped worker that does not have the flag has no event, where the flag is not free and it is not served
 pub none_trapped : (job : CoreJob) (s : State) (w : ℕ) → HoldsNot s w → s.status w ≢ Free → s.hold ≢ None → ((receipt : Receipt) → s.status w ≢ Served receipt)
     → (event : Event) → Needs job s w event → ⊥
-none_trapped job s w away busy held unserved (Claim n) needs = busy needs.0
-none_trapped job s w away busy held unserved (Start n) needs = busy needs.0
-none_trapped job s w away busy held unserved (OpenParRight p l r) needs = busy needs.0
-none_trapped job s w away busy held unserved (OpenParLeft p l r) needs = busy needs.0
-none_trapped job s w away busy held unserved (OpenSeqLeft p l r) needs = busy needs.0
-none_trapped job s w away busy held unserved (OpenSeqRight p l r) needs = busy needs.0
-none_trapped job s w away busy held unserved (Post n t) needs = busy needs.0
 none_trapped job s w away busy held unserved Win needs = held needs.2
 none_trapped job s w away busy held unserved (Take u) needs = away needs.0 needs.1.0 needs.1.1
 none_trapped job s w away busy held unserved Publish needs = away needs.0 needs.1.0 needs.1.1
 none_trapped job s w away busy held unserved (Answer u receipt) needs = away needs.0 needs.1.0 needs.1.1
 none_trapped job s w away busy held unserved Release needs = away needs.0 needs.1.0 needs.1.1
 none_trapped job s w away busy held unserved (Leave receipt) needs = unserved receipt needs.0
-none_trapped job s w away busy held unserved (Keep n t v) needs = busy needs.0
-none_trapped job s w away busy held unserved (End n t) needs = busy needs.0
-none_trapped job s w away busy held unserved (FinishLeaf n t e) needs = busy needs.0
-none_trapped job s w away busy held unserved (FinishSeq p l r) needs = busy needs.0
-none_trapped job s w away busy held unserved (FinishPar p l r) needs = busy needs.0
-none_trapped job s w away busy held unserved (ArriveFirst p l r n) needs = busy needs.0
-none_trapped job s w away busy held unserved (ArriveSecond p l r n) needs = busy needs.0
+none_trapped job s w away busy held unserved _ needs = busy needs.0
 
 -- a worker that is free and idle and does not have the flag has no event, where no node is ready
 pub none_idle : (job : CoreJob) (s : State) (w : ℕ) → HoldsNot s w → s.status w ≡ Free → s.task w ≡ Idle → ((n : ℕ) → s.node n ≢ Ready)
     → (event : Event) → Needs job s w event → ⊥
 none_idle job s w away free idle none (Claim n) needs = none n needs.2
-none_idle job s w away free idle none (Start n) needs = let f = needs.1 in cc
-none_idle job s w away free idle none (OpenParRight p l r) needs = let f = needs.1 in cc
-none_idle job s w away free idle none (OpenParLeft p l r) needs = let f = needs.1 in cc
-none_idle job s w away free idle none (OpenSeqLeft p l r) needs = let f = needs.1 in cc
-none_idle job s w away free idle none (OpenSeqRight p l r) needs = let f = needs.1 in cc
-none_idle job s w away free idle none (Post n t) needs = let f = needs.1 in cc
 none_idle job s w away free idle none Win needs = needs.0 free
 none_idle job s w away free idle none (Take u) needs = away needs.0 needs.1.0 needs.1.1
 none_idle job s w away free idle none Publish needs = away needs.0 needs.1.0 needs.1.1
 none_idle job s w away free idle none (Answer u receipt) needs = away needs.0 needs.1.0 needs.1.1
 none_idle job s w away free idle none Release needs = away needs.0 needs.1.0 needs.1.1
 none_idle job s w away free idle none (Leave receipt) needs = let f = needs.0 in cc
-none_idle job s w away free idle none (Keep n t v) needs = let f = needs.1 in cc
-none_idle job s w away free idle none (End n t) needs = let f = needs.1 in cc
-none_idle job s w away free idle none (FinishLeaf n t e) needs = let f = needs.1 in cc
-none_idle job s w away free idle none (FinishSeq p l r) needs = let f = needs.1 in cc
-none_idle job s w away free idle none (FinishPar p l r) needs = let f = needs.1 in cc
-none_idle job s w away free idle none (ArriveFirst p l r n) needs = let f = needs.1 in cc
-none_idle job s w away free idle none (ArriveSecond p l r n) needs = let f = needs.1 in cc
+none_idle job s w away free idle none _ needs = let f = needs.1 in cc
 
 pub first_stands : (n m : ℕ) (ns : List ℕ) → n ≡ m → times n (m ∷ ns) ≢ 0
 first_stands n m ns e none = grind (arith, nat_tests)

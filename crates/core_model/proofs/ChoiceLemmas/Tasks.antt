@@ -1,6 +1,6 @@
 -- What a choice owes, and the turns of a worker that is not trapped and has a task: the choice is its next act.
 use Rattle.std.proofs.Common.{ℕ, ◌≡◌, ◌≢◌, Option, Some, None, List, refl}
-use Rattle.core_model.proofs.Words.{IsPlan, Task, Idle, Run, Half, Started, Kept, Ended, Whole, Handed, Free, Event, CoreJob, State, CoreState}
+use Rattle.core_model.proofs.Words.{IsPlan, Task, Idle, Free, Event, CoreJob, State, CoreState}
 use Rattle.core_model.specs.Invariant.Tasks.{TaskFits}
 use Rattle.core_model.specs.Events.{Needs}
 use Rattle.core_model.specs.Next.{next_act}
@@ -26,13 +26,7 @@ gives_allows job s w (Some event) h = h
 -- a worker that is not trapped and has a task chooses the event of its next act
 pub choice_is_next : (job : CoreJob) (s : CoreState) (w : ℕ) (t : Task) → t ≢ Idle → choice_free job s w t ≡ event_if s.state.mark (next_act job t (s.state.call w))
 choice_is_next job s w Idle busy = absurd (busy refl)
-choice_is_next job s w (Run n) busy = refl
-choice_is_next job s w (Half p) busy = refl
-choice_is_next job s w (Started n t) busy = refl
-choice_is_next job s w (Kept n t) busy = refl
-choice_is_next job s w (Ended n t e) busy = refl
-choice_is_next job s w (Whole n) busy = refl
-choice_is_next job s w (Handed p) busy = refl
+choice_is_next job s w _ busy = refl
 
 acts_give : (job : CoreJob) (s : State) (w : ℕ) (o : Option Next) → Acts job s w o → Gives job s w (event_if s.mark o)
 acts_give job s w None acts = absurd acts

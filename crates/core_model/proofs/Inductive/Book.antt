@@ -88,14 +88,9 @@ worker_at (Some place) = Some place.entry.worker
 
 -- whether a task has its leaf's value
 abbrev pub is_valued : Task → Bool
-is_valued Idle = false
-is_valued (Run n) = false
-is_valued (Half n) = false
-is_valued (Started n s) = false
 is_valued (Kept n s) = true
 is_valued (Ended n s e) = true
-is_valued (Whole n) = false
-is_valued (Handed n) = false
+is_valued _ = false
 
 -- whether the leaf at a node with this progress and this holder has its value
 abbrev pub valued_by : Progress → Option ℕ → (ℕ → Task) → Bool

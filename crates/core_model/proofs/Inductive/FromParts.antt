@@ -4,7 +4,7 @@ use Rattle.std.proofs.Common.{ℕ, ◌≡◌, ◌≢◌, ◌<◌, ◌≤◌, ◌
 use Rattle.std.proofs.lemmas.Bool.{cases_eq, cases_lt, false_from_ne_true}
 use Rattle.std.proofs.lemmas.Bool.Decides.{nat_tests}
 use Rattle.seq_objects.specs.Objects.{value_of}
-use Rattle.core_model.proofs.Words.{Act, Work, Call, Kind, LeafNode, SeqNode, ParNode, Nodes, IsPlan, Entry, Progress, Waiting, Ready, Taken, Done, Ran, Task, Idle, Run, Half, Started, Kept, Ended, Whole, Handed, Status, Free, Pending, Executing, Served, CallState, NotCalled, Out, Got, Receipt, CoreJob, State, CoreState, is_done, names, Event}
+use Rattle.core_model.proofs.Words.{Act, Work, Call, Kind, LeafNode, SeqNode, ParNode, Nodes, IsPlan, Entry, Progress, Waiting, Ready, Taken, Done, Ran, Task, Idle, Started, Kept, Ended, Whole, Status, Free, Pending, Executing, Served, CallState, NotCalled, Out, Got, Receipt, CoreJob, State, CoreState, is_done, names, Event}
 use Rattle.sp_order.specs.Plans.{itself}
 use Rattle.core_model.specs.Operations.{IsLeaf, op_of, Place, place_of}
 use Rattle.core_model.specs.Choice.{least_below}
@@ -79,9 +79,6 @@ stamp_parts v w a s d e is =
 -- the stamp of a task
 tells_start : (t : Task) (v w n s : ℕ) (e : Option ℕ) → names t ≡ Some n → stamp_in_task v t ≡ Some (stamp w s e)
     → (v ≡ w) × IsStartedAs t n s × ((d : ℕ) → e ≡ Some d → t ≡ Ended n s d)
-tells_start Idle v w n s e name is = cc
-tells_start (Run m) v w n s e name is = cc
-tells_start (Half m) v w n s e name is = cc
 tells_start (Started m a) v w n s e name is =
     let p = stamp_parts v w a s None e is in let m_is : m ≡ n = cc in (p.0, (m_is, p.1), λ d f. let g = p.2 ∙ f in cc)
 tells_start (Kept m a) v w n s e name is =
@@ -90,8 +87,7 @@ tells_start (Ended m a b) v w n s e name is =
     let p = stamp_parts v w a s (Some b) e is in
     let m_is : m ≡ n = cc in
     (p.0, (m_is, p.1), λ d f. let g = p.2 ∙ f in let b_is : b ≡ d = cc in let a_is : a ≡ s = p.1 in rw (m_is, a_is, b_is) refl)
-tells_start (Whole m) v w n s e name is = cc
-tells_start (Handed m) v w n s e name is = cc
+tells_start _ v w n s e name is = cc
 
 module _ (plan : Nodes) (workers : ℕ) (node : ℕ → Progress) (mark : ℕ → ℕ) (tick : ℕ) (task : ℕ → Task)
     (nodes : NodesInvariant plan node) (tasks : TasksInvariant plan node mark task) (ticks : TicksInvariant plan workers node tick task)
@@ -218,20 +214,18 @@ module _ (plan : Nodes) (workers : ℕ) (node : ℕ → Progress) (mark : ℕ �
 
   start_told : (t n : ℕ) (a : Draw) → IsDrawn node task a t → told task a ≡ StartOf n → StartsAt (stamps_of n) t
   start_told t n (start_of m) d is = let e : m ≡ n = same_start m n is in rw (← e, d.2) refl
-  start_told t n (end_of m) d is = absurd cc
-  start_told t n (end_by w) d is = absurd cc
   start_told t n (start_by w) d is =
       let name = started_name (task w) d.0 t d.1 in
       let e : d.0 ≡ n = same_start d.0 n (sym (ap (λ (o : Option ℕ). StartOf (node_in o)) name) ∙ is) in
       let s = stamped plan node mark task holder_of tasks_carried d.0 w t (inr d.1) in rw (← e, s.1) refl
+  start_told t n _ d is = absurd cc
 
   end_told : (t n : ℕ) (a : Draw) → IsDrawn node task a t → told task a ≡ EndOf n → EndsAt (stamps_of n) t
   end_told t n (end_of m) d is = let e : m ≡ n = same_end m n is in rw (← e, d.2) refl
-  end_told t n (start_of m) d is = absurd cc
-  end_told t n (start_by w) d is = absurd cc
   end_told t n (end_by w) d is =
       let e : d.0 ≡ n = same_end d.0 n (sym (ap (λ (x : Task). EndOf (node_in (names x))) d.2) ∙ is) in
       let s = stamp_ended d.0 w d.1 t (inr d.2) in rw (← e, s) refl
+  end_told t n _ d is = absurd cc
 
   start_worker : (n w s : ℕ) → HasStart node task n w s → w < workers
   start_worker n w s (inl ran) = ticks.among n w s ran.0 ran.1
@@ -323,14 +317,9 @@ module _ (job : CoreJob) (s : State) (h : Parts job s) where
   }
 
   kept_by : (t : Task) (n w : ℕ) → s.task w ≡ t → names t ≡ Some n → is_valued t ≡ true → IsKept s.node s.task n
-  kept_by Idle n w mine name e = cc
-  kept_by (Run m) n w mine name e = cc
-  kept_by (Half m) n w mine name e = cc
-  kept_by (Started m a) n w mine name e = cc
   kept_by (Kept m a) n w mine name e = let f : m ≡ n = cc in inr (inl (w, a, rw (← f) mine))
   kept_by (Ended m a d) n w mine name e = let f : m ≡ n = cc in inr (inr (w, a, d, rw (← f) mine))
-  kept_by (Whole m) n w mine name e = cc
-  kept_by (Handed m) n w mine name e = cc
+  kept_by _ n w mine name e = cc
 
   is_kept : (n : ℕ) (x : Progress) (o : Option ℕ) → s.node n ≡ x → holder n ≡ o → valued_by x o s.task ≡ true → IsKept s.node s.task n
   is_kept n Waiting o at held e = cc
@@ -371,27 +360,18 @@ module _ (job : CoreJob) (s : State) (h : Parts job s) where
 -- the lists
 module _ (workers : ℕ) (node : ℕ → Progress) (ready : ℕ → List ℕ) (h : ReadyListsInvariant workers node ready) where
   home_by : (n : ℕ) (x : Progress) → node n ≡ x → Option ℕ
-  home_by n Waiting at = None
   home_by n Ready at = Some (h.each n at).0
-  home_by n Taken at = None
-  home_by n Done at = None
-  home_by n (Ran w s e) at = None
+  home_by n _ at = None
 
   home_there : (n : ℕ) (x : Progress) (at : node n ≡ x) → x ≡ Ready → home_by n x at ≢ None
   unfolding home_by
   home_there n Waiting at e none = cc
-  home_there n Ready at e none = cc
-  home_there n Taken at e none = cc
-  home_there n Done at e none = cc
-  home_there n (Ran w s d) at e none = cc
+  home_there n _ at e none = cc
 
   home_among : (n w : ℕ) (x : Progress) (at : node n ≡ x) → home_by n x at ≡ Some w → w < workers
   unfolding home_by
-  home_among n w Waiting at e = absurd cc
   home_among n w Ready at e = let f : (h.each n at).0 ≡ w = cc in rw (← f) (h.each n at).1
-  home_among n w Taken at e = absurd cc
-  home_among n w Done at e = absurd cc
-  home_among n w (Ran v s d) at e = absurd cc
+  home_among n w _ at e = absurd cc
 
   stands_not : (n w : ℕ) → node n ≢ Ready → times n (ready w) ≡ 0
   stands_not n w other = elim (cases_eq (times n (ready w)) 0) [
@@ -407,8 +387,7 @@ module _ (workers : ℕ) (node : ℕ → Progress) (ready : ℕ → List ℕ) (h
     | inr other ↦ let none = (h.each n at).3 w (λ e. other (sym e)) in grind (arith, nat_tests)
   ]
   stands_so n w Taken at = stands_not n w (λ e. let f = sym at ∙ e in cc)
-  stands_so n w Done at = stands_not n w (λ e. let f = sym at ∙ e in cc)
-  stands_so n w (Ran v s d) at = stands_not n w (λ e. let f = sym at ∙ e in cc)
+  stands_so n w _ at = stands_not n w (λ e. let f = sym at ∙ e in cc)
 
   pub lists_carried : InductiveLists workers node ready
   lists_carried = record {

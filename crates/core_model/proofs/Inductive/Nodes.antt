@@ -30,13 +30,12 @@ passed_if false holder = 0
 
 -- what holds of a taken node of this kind that has no holder
 abbrev pub LeftAlone : Option Kind → (ℕ → Progress) → (ℕ → ℕ) → (ℕ → Option ℕ) → ℕ → Type 0
-LeftAlone None node mark holder p = ⊥
-LeftAlone (Some (LeafNode u)) node mark holder p = ⊥
 LeftAlone (Some (SeqNode l r)) node mark holder p =
     (node l ≢ Waiting)
     × (is_done (node l) ≡ true → holder l ≡ None → node r ≢ Waiting)
     × (is_done (node r) ≡ true → holder r ≢ None)
 LeftAlone (Some (ParNode l r)) node mark holder p = (node l ≢ Waiting) × (node r ≢ Waiting) × (mark p < 2)
+LeftAlone _ node mark holder p = ⊥
 
 -- the tasks against the nodes
 pub record InductiveTasks (plan : Nodes) (node : ℕ → Progress) (mark : ℕ → ℕ) (task : ℕ → Task) (holder : ℕ → Option ℕ) : Type 0 where

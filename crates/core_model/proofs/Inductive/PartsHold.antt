@@ -9,7 +9,7 @@ use Rattle.core_model.specs.Invariant.Statuses.{StatusesInvariant}
 use Rattle.core_model.specs.Invariant.Book.{BookInvariant}
 use Rattle.core_model.specs.Invariant.Membership.{IsBooked, MembershipInvariant}
 use Rattle.core_model.specs.Invariant.{Parts}
-use Rattle.core_model.proofs.Words.{Act, Work, Call, LeafNode, Nodes, Entry, Progress, Waiting, Ready, Taken, Done, Ran, Task, Idle, Run, Half, Started, Kept, Ended, Whole, Handed, Status, Free, Pending, Executing, Served, CallState, NotCalled, Out, Got, Receipt, CoreJob, State, is_done, names}
+use Rattle.core_model.proofs.Words.{Act, Work, Call, LeafNode, Nodes, Entry, Progress, Waiting, Ready, Taken, Done, Ran, Task, Started, Kept, Ended, Status, Free, Pending, Executing, Served, CallState, NotCalled, Out, Got, Receipt, CoreJob, State, is_done, names}
 use Rattle.batch_history.specs.Book.{flat}
 use Rattle.core_model.specs.Operations.{op_in, Place, place_of}
 use Rattle.core_model.specs.Invariant.Tasks.{TaskFits}
@@ -116,16 +116,12 @@ by_call s n w a (Served r) (Got q) b mine f g p e = inr (inr (inr (a, mine, inl 
 
 -- and by its task
 by_task : (s : State) (n w : ℕ) (t : Task) → s.task w ≡ t → names t ≡ Some n → is_booked t (s.status w) (s.call w) (is_published s.hold) ≡ true → IsBooked s n w
-by_task s n w Idle mine name e = cc
-by_task s n w (Run m) mine name e = cc
-by_task s n w (Half m) mine name e = cc
-by_task s n w (Whole m) mine name e = cc
-by_task s n w (Handed m) mine name e = cc
 by_task s n w (Kept m a) mine name e = let f : m ≡ n = cc in inr (inl (a, rw (← f) mine))
 by_task s n w (Ended m a d) mine name e = let f : m ≡ n = cc in inr (inr (inl (a, d, rw (← f) mine)))
 by_task s n w (Started m a) mine name e =
     let f : m ≡ n = cc in
     by_call s n w a (s.status w) (s.call w) (is_published s.hold) (rw (← f) mine) refl refl refl (rw f at e)
+by_task s n w _ mine name e = cc
 
 -- a choice that gives a worker
 if_true : (b : Bool) (v w : ℕ) → (if b then Some v else None) ≡ Some w → (b ≡ true) × (v ≡ w)

@@ -1,6 +1,6 @@
 -- The stamp of a leaf that has a start or an end, by the task that names it.
 use Rattle.std.proofs.Common.{ℕ, ◌≡◌, Option, Some, None, refl, inl, inr, ◌∙◌, ap}
-use Rattle.core_model.proofs.Words.{Nodes, Progress, Taken, Task, Idle, Run, Half, Started, Kept, Ended, Whole, Handed, names}
+use Rattle.core_model.proofs.Words.{Nodes, Progress, Taken, Task, Started, Kept, Ended, names}
 use Rattle.core_model.specs.Operations.{IsLeaf}
 use Rattle.core_model.specs.Invariant.Tasks.{TaskFits}
 use Rattle.core_model.specs.Invariant.Ticks.{IsStartedAs, HasStart, HasEnd}
@@ -9,38 +9,26 @@ use Rattle.core_model.proofs.Inductive.Ticks.{stamp, stamp_in_task, stamps}
 
 -- a task that names a leaf as started names it
 pub started_name : (t : Task) (n s : ℕ) → IsStartedAs t n s → names t ≡ Some n
-started_name Idle n s is = absurd is
-started_name (Run m) n s is = absurd is
-started_name (Half m) n s is = absurd is
 started_name (Started m a) n s is = ap Some is.0
 started_name (Kept m a) n s is = ap Some is.0
 started_name (Ended m a e) n s is = ap Some is.0
-started_name (Whole m) n s is = absurd is
-started_name (Handed m) n s is = absurd is
+started_name _ n s is = absurd is
 
 -- and says that it is a taken leaf
 pub started_leaf : (plan : Nodes) (node : ℕ → Progress) (mark : ℕ → ℕ) (t : Task) (n s : ℕ) → IsStartedAs t n s → TaskFits plan node mark t → IsLeaf (plan.kind n) × (node n ≡ Taken)
-started_leaf plan node mark Idle n s is fits = absurd is
-started_leaf plan node mark (Run m) n s is fits = absurd is
-started_leaf plan node mark (Half m) n s is fits = absurd is
 started_leaf plan node mark (Started m a) n s is fits = rw (← is.0) fits
 started_leaf plan node mark (Kept m a) n s is fits = rw (← is.0) fits
 started_leaf plan node mark (Ended m a e) n s is fits = rw (← is.0) fits
-started_leaf plan node mark (Whole m) n s is fits = absurd is
-started_leaf plan node mark (Handed m) n s is fits = absurd is
+started_leaf plan node mark _ n s is fits = absurd is
 
 -- its stamp has this worker and this start, and an end where the task has one
 started_stamp : (t : Task) (w n s : ℕ) → IsStartedAs t n s
     → (d : Option ℕ) × (stamp_in_task w t ≡ Some (stamp w s d)) × ((e : ℕ) → d ≡ Some e → t ≡ Ended n s e)
-started_stamp Idle w n s is = absurd is
-started_stamp (Run m) w n s is = absurd is
-started_stamp (Half m) w n s is = absurd is
 started_stamp (Started m a) w n s is = (None, ap (λ (b : ℕ). Some (stamp w b None)) is.1, λ e f. cc)
 started_stamp (Kept m a) w n s is = (None, ap (λ (b : ℕ). Some (stamp w b None)) is.1, λ e f. cc)
 started_stamp (Ended m a b) w n s is =
     (Some b, ap (λ (x : ℕ). Some (stamp w x (Some b))) is.1, λ e f. let m_is : m ≡ n = is.0 in let a_is : a ≡ s = is.1 in let b_is : b ≡ e = cc in rw (m_is, a_is, b_is) refl)
-started_stamp (Whole m) w n s is = absurd is
-started_stamp (Handed m) w n s is = absurd is
+started_stamp _ w n s is = absurd is
 
 module _ (plan : Nodes) (node : ℕ → Progress) (mark : ℕ → ℕ) (task : ℕ → Task) (holder : ℕ → Option ℕ) (tasks : InductiveTasks plan node mark task holder) where
   -- a leaf that a task names as started is taken, and the worker holds it

@@ -1,6 +1,6 @@
 -- What the proofs carry of the ticks: the stamp of each leaf that has started, and what each tick was drawn for.
 use Rattle.std.specs.Prelude.{ℕ, ◌≡◌, ◌<◌, Option, None, Some}
-use Rattle.core_model.proofs.Words.{LeafNode, Nodes, IsBySeries, Progress, Waiting, Ready, Taken, Done, Ran, Task, Idle, Run, Half, Started, Kept, Ended, Whole, Handed}
+use Rattle.core_model.proofs.Words.{LeafNode, Nodes, IsBySeries, Progress, Waiting, Ready, Taken, Done, Ran, Task, Started, Kept, Ended}
 
 -- the stamp of a started leaf: its worker, its start, and its end once it has one
 pub record Stamp : Type 0 where
@@ -13,14 +13,10 @@ stamp w s e = record { worker = w; start = s; end = e }
 
 -- the stamp in a worker's task
 abbrev pub stamp_in_task : ℕ → Task → Option Stamp
-stamp_in_task w Idle = None
-stamp_in_task w (Run n) = None
-stamp_in_task w (Half n) = None
 stamp_in_task w (Started n s) = Some (stamp w s None)
 stamp_in_task w (Kept n s) = Some (stamp w s None)
 stamp_in_task w (Ended n s e) = Some (stamp w s (Some e))
-stamp_in_task w (Whole n) = None
-stamp_in_task w (Handed n) = None
+stamp_in_task w _ = None
 
 abbrev pub stamp_by : Progress → Option ℕ → (ℕ → Task) → Option Stamp
 stamp_by Waiting holder task = None
@@ -41,11 +37,8 @@ pub data Drawn : Type 0 where
 
 -- the leaf ran, and ended before the tick
 abbrev pub RanBefore : Progress → ℕ → Type 0
-RanBefore Waiting tick = ⊥
-RanBefore Ready tick = ⊥
-RanBefore Taken tick = ⊥
-RanBefore Done tick = ⊥
 RanBefore (Ran w s e) tick = e < tick
+RanBefore _ tick = ⊥
 
 abbrev pub EndsBefore : Option ℕ → ℕ → Type 0
 EndsBefore None tick = ⊥

@@ -30,10 +30,7 @@ source node holder (EndOf n) = end_source (node n) (holder n) n
 -- what has run before a tick has an end below it
 ran_before : (x : Progress) (t : ℕ) → RanBefore x t → (v : ℕ) × (a : ℕ) × (e : ℕ) × (x ≡ Ran v a e) × (e < t)
 ran_before (Ran v a e) t h = (v, a, e, refl, h)
-ran_before Waiting t h = absurd h
-ran_before Ready t h = absurd h
-ran_before Taken t h = absurd h
-ran_before Done t h = absurd h
+ran_before _ t h = absurd h
 
 module _ (plan : Nodes) (workers : ℕ) (node : ℕ → Progress) (mark : ℕ → ℕ) (tick : ℕ) (task : ℕ → Task) (holder : ℕ → Option ℕ)
     (tasks : InductiveTasks plan node mark task holder) (h : InductiveTicks plan workers node tick (stamps node task holder)) where

@@ -1,6 +1,6 @@
 -- What a published batch means for statuses, for entries and for which calls are in the book.
 use Rattle.std.proofs.Common.{ℕ, ◌≡◌, ◌≢◌, ◌<◌, Bool, true, false, if◌then◌else◌, Option, Some, None, List, [], ◌∷◌, ◌++◌, length, arith, refl, inl, inr, sym, ◌∙◌, ap, length-append}
-use Rattle.core_model.proofs.Words.{LeafNode, Nodes, Entry, Progress, Waiting, Ready, Taken, Done, Ran, Task, Idle, Run, Half, Started, Kept, Ended, Whole, Handed, Status, Executing, CallState, Out, Receipt, CoreJob, Hold, State, names}
+use Rattle.core_model.proofs.Words.{LeafNode, Nodes, Entry, Progress, Waiting, Ready, Taken, Done, Ran, Task, Started, Status, Executing, CallState, Out, Receipt, CoreJob, Hold, State, names}
 use Rattle.core_model.specs.Operations.{leaf_of, op_of, Place, place_in, or_else, place_of, IsReceipt}
 use Rattle.core_model.specs.Invariant.Tasks.{TaskFits}
 use Rattle.core_model.specs.Events.{published}
@@ -14,14 +14,8 @@ use Rattle.core_model.proofs.BookLemmas.Operations.{op_kept, of_source}
 
 -- the node that a task has started
 abbrev pub started_at : Task → Option ℕ
-started_at Idle = None
-started_at (Run n) = None
-started_at (Half n) = None
 started_at (Started n t) = Some n
-started_at (Kept n t) = None
-started_at (Ended n t e) = None
-started_at (Whole n) = None
-started_at (Handed n) = None
+started_at _ = None
 
 -- the calls of a batch, against the tasks and the workers whose calls are taken
 pub record BatchFits (job : CoreJob) (s : State) (took : ℕ → Bool) (batch : List Entry) : Type 0 where
@@ -38,13 +32,7 @@ receipt_kept None o r h = absurd h
 -- so does the receipt of a task
 pub has_receipt_kept : (job : CoreJob) (book : List (List Entry)) (b : List Entry) (t : Task) (r : Receipt) → HasReceipt job book t r → HasReceipt job (book ++ b ∷ []) t r
 has_receipt_kept job book b (Started n s) r h = rw (place_append book b (leaf_of (job.plan.kind n))) (receipt_kept (place_of book (leaf_of (job.plan.kind n))) (place_in (length book) 0 b (leaf_of (job.plan.kind n))) r h)
-has_receipt_kept job book b Idle r h = h
-has_receipt_kept job book b (Run n) r h = h
-has_receipt_kept job book b (Half n) r h = h
-has_receipt_kept job book b (Kept n s) r h = h
-has_receipt_kept job book b (Ended n s e) r h = h
-has_receipt_kept job book b (Whole n) r h = h
-has_receipt_kept job book b (Handed n) r h = h
+has_receipt_kept job book b _ r h = h
 
 -- so does a status
 pub status_kept : (job : CoreJob) (book : List (List Entry)) (b : List Entry) (t : Task) (st : Status) (c : CallState) (x : Bool)

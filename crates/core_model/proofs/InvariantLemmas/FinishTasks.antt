@@ -36,10 +36,9 @@ arrive_alone_seq node holder n l r left right h = grind (arith, nat_tests)
 arrive_alone : (node : ℕ → Progress) (mark : ℕ → ℕ) (holder : ℕ → Option ℕ) (n p i : ℕ) (k : Option Kind) (q : ℕ) → i < 2
     → ((l r : ℕ) → k ≡ Some (SeqNode l r) → l ≢ n) → ((l r : ℕ) → k ≡ Some (SeqNode l r) → r ≢ n)
     → LeftAlone k node mark holder q → LeftAlone k node (put mark p i) (put holder n None) q
-arrive_alone node mark holder n p i (Some (LeafNode u)) q low left right h = h
-arrive_alone node mark holder n p i None q low left right h = h
 arrive_alone node mark holder n p i (Some (SeqNode l r)) q low left right h = arrive_alone_seq node holder n l r (left l r refl) (right l r refl) h
 arrive_alone node mark holder n p i (Some (ParNode l r)) q low left right h = (h.0, h.1, put_low mark p i q low h.2)
+arrive_alone node mark holder n p i _ q low left right h = h
 
 -- a series, when its worker gives up a node that is no side of it and holds p
 hand_alone_seq : (node : ℕ → Progress) (holder : ℕ → Option ℕ) (n p w l r : ℕ) → l ≢ n → r ≢ n
@@ -55,10 +54,9 @@ put_elsewhere mark p i q other h = grind (arith, nat_tests)
 hand_alone : (node : ℕ → Progress) (mark : ℕ → ℕ) (holder : ℕ → Option ℕ) (n p w i : ℕ) (k : Option Kind) (q : ℕ) → q ≢ p
     → ((l r : ℕ) → k ≡ Some (SeqNode l r) → l ≢ n) → ((l r : ℕ) → k ≡ Some (SeqNode l r) → r ≢ n)
     → LeftAlone k node mark holder q → LeftAlone k node (put mark p i) (put (put holder n None) p (Some w)) q
-hand_alone node mark holder n p w i (Some (LeafNode u)) q other left right h = h
-hand_alone node mark holder n p w i None q other left right h = h
 hand_alone node mark holder n p w i (Some (SeqNode l r)) q other left right h = hand_alone_seq node holder n p w l r (left l r refl) (right l r refl) h
 hand_alone node mark holder n p w i (Some (ParNode l r)) q other left right h = (h.0, h.1, put_elsewhere mark p i q other h.2)
+hand_alone node mark holder n p w i _ q other left right h = h
 
 -- no task names a Par whose sides are done, unless it is handed
 par_busy : (plan : Nodes) (node : ℕ → Progress) (mark : ℕ → ℕ) (p l r : ℕ) → plan.kind p ≡ Some (ParNode l r) → IsSide plan p l → is_done (node l) ≡ true → is_done (node r) ≡ true

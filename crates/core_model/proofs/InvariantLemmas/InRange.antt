@@ -1,6 +1,6 @@
 -- The nodes that tasks, lists and events name are nodes of the plan, and the workers are among those that there are.
 use Rattle.std.proofs.Common.{ℕ, ◌≡◌, ◌≢◌, ◌<◌, true, Some, List, arith, ap}
-use Rattle.core_model.proofs.Words.{Kind, SeqNode, ParNode, Nodes, IsPlan, IsSide, parent_of, Progress, Waiting, Task, Event, Claim, Start, OpenParRight, OpenParLeft, OpenSeqLeft, OpenSeqRight, Post, Win, Take, Publish, Answer, Release, Leave, Keep, End, FinishLeaf, FinishSeq, FinishPar, ArriveFirst, ArriveSecond, CoreJob, Hold, State, names}
+use Rattle.core_model.proofs.Words.{Kind, SeqNode, ParNode, Nodes, IsPlan, IsSide, parent_of, Progress, Waiting, Task, Event, Claim, Start, OpenParRight, OpenParLeft, OpenSeqLeft, OpenSeqRight, Post, Take, Answer, Keep, End, FinishLeaf, FinishSeq, FinishPar, ArriveFirst, ArriveSecond, CoreJob, Hold, State, names}
 use Rattle.core_model.specs.Lists.{times}
 use Rattle.core_model.specs.Invariant.ReadyLists.{ReadyListsInvariant}
 use Rattle.core_model.specs.Invariant.Tasks.{TaskFits}
@@ -56,12 +56,8 @@ module _ (job : CoreJob) (s : State) (laws : IsPlan job.plan) (h : InductivePart
   event_in w (OpenSeqLeft p l r) needs = seq_in job.plan laws p l r needs.2
   event_in w (OpenSeqRight p l r) needs = seq_in job.plan laws p l r needs.2
   event_in w (Post n t) needs = named_in w n (ap names needs.1)
-  event_in w Win needs = tt
   event_in w (Take u) needs = needs.3
-  event_in w Publish needs = tt
   event_in w (Answer u receipt) needs = taken_in needs.0 needs.1.0 u needs.3
-  event_in w Release needs = tt
-  event_in w (Leave receipt) needs = tt
   event_in w (Keep n t v) needs = named_in w n (ap names needs.1)
   event_in w (End n t) needs = named_in w n (ap names needs.1)
   event_in w (FinishLeaf n t e) needs = named_in w n (ap names needs.1)
@@ -69,3 +65,4 @@ module _ (job : CoreJob) (s : State) (laws : IsPlan job.plan) (h : InductivePart
   event_in w (FinishPar p l r) needs = par_in job.plan laws p l r needs.2
   event_in w (ArriveFirst p l r n) needs = (par_in job.plan laws p l r needs.2, named_in w n (ap names needs.1))
   event_in w (ArriveSecond p l r n) needs = (par_in job.plan laws p l r needs.2, named_in w n (ap names needs.1))
+  event_in w _ needs = tt

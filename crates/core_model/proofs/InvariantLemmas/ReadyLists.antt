@@ -132,10 +132,7 @@ module _ (job : CoreJob) (s : State) (w : ℕ) (ready : ℕ → List ℕ) (laws 
 -- what is to stand in a list is ready
 is_ready : (x : Progress) (o : Option ℕ) (w : ℕ) → stands_in x o w ≢ 0 → x ≡ Ready
 is_ready Ready o w h = refl
-is_ready Waiting o w h = absurd (h refl)
-is_ready Taken o w h = absurd (h refl)
-is_ready Done o w h = absurd (h refl)
-is_ready (Ran a b c) o w h = absurd (h refl)
+is_ready _ o w h = absurd (h refl)
 
 -- a ready node is in one worker's list, its home, and in no other
 at_home : (x : Progress) (w : ℕ) → x ≡ Ready → (stands_in x (Some w) w ≡ 1) × ((v : ℕ) → v ≢ w → stands_in x (Some w) v ≡ 0)

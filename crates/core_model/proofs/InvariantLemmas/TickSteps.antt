@@ -1,7 +1,7 @@
 -- The ticks, as a leaf starts or ends.
 use Rattle.std.proofs.Common.{ℕ, ◌≡◌, ◌≢◌, ◌<◌, ◌+◌, true, Option, Some, None, arith, refl, sym, ◌∙◌}
 use Rattle.std.proofs.lemmas.Bool.Decides.{nat_tests}
-use Rattle.core_model.proofs.Words.{Nodes, IsUnder, Progress, Waiting, Ready, Taken, Done, Ran, Task, put, is_done}
+use Rattle.core_model.proofs.Words.{Nodes, IsUnder, Progress, Waiting, Done, Ran, Task, put, is_done}
 use Rattle.sp_order.specs.Plans.{itself, one_below}
 use Rattle.core_model.proofs.Inductive.Nodes.{InductiveNodes}
 use Rattle.core_model.proofs.Inductive.Ticks.{Stamp, stamp, stamps, StartOf, EndOf, RanBefore, ComesBefore, InductiveTicks}
@@ -24,10 +24,8 @@ before_done plan node n m h b m_there =
 -- a done leaf has run before the tick, if each that has run has
 ran_by : (x : Progress) (tick : ℕ) → is_done x ≡ true → x ≢ Done → ((w s e : ℕ) → x ≡ Ran w s e → e < tick) → RanBefore x tick
 ran_by (Ran w s e) tick d n f = f w s e refl
-ran_by Waiting tick d n f = cc
-ran_by Ready tick d n f = cc
-ran_by Taken tick d n f = cc
 ran_by Done tick d n f = n refl
+ran_by _ tick d n f = cc
 
 -- a leaf before one that isn't waiting has run, and its end was drawn
 pub before_ran : (plan : Nodes) (workers : ℕ) (node : ℕ → Progress) (tick : ℕ) (task : ℕ → Task) (holder : ℕ → Option ℕ) (n m : ℕ)

@@ -2,7 +2,7 @@
 -- each leaf that calls six more and as many as there are workers.
 use Rattle.std.proofs.Common.{ℕ, zero, suc, ◌≡◌, ◌≢◌, ◌<◌, ◌≤◌, ◌+◌, ◌*◌, false, Option, Some, None, [], ◌∷◌, ◌++◌, arith, refl, sym, ◌∙◌}
 use Rattle.std.proofs.lemmas.Bool.Decides.{nat_tests}
-use Rattle.core_model.proofs.Words.{Op, Kind, LeafNode, SeqNode, ParNode, IsPlan, Waiting, Ready, Idle, Status, Free, Pending, Executing, Served, NotCalled, Event, Claim, Start, OpenParRight, OpenParLeft, OpenSeqLeft, OpenSeqRight, Post, Win, Take, Publish, Answer, Release, Leave, Keep, End, FinishLeaf, FinishSeq, FinishPar, ArriveFirst, ArriveSecond, put, CoreJob, State, CoreState}
+use Rattle.core_model.proofs.Words.{Op, Kind, LeafNode, IsPlan, Waiting, Ready, Idle, Status, Free, Pending, NotCalled, Event, Claim, Start, OpenParRight, OpenParLeft, OpenSeqLeft, OpenSeqRight, Post, Win, Take, Publish, Answer, Release, Leave, Keep, End, FinishLeaf, FinishSeq, FinishPar, ArriveFirst, ArriveSecond, put, CoreJob, State, CoreState}
 use Rattle.core_model.specs.State.{opening_state}
 use Rattle.core_model.specs.Operations.{op_in}
 use Rattle.core_model.specs.Serving.{served}
@@ -43,8 +43,7 @@ event_lowers job s w (Leave r) new laws below h needs turns does = rw does (leav
 by_pending : (job : CoreJob) (s : CoreState) (w : ℕ) (st : Status) → choice_by job s w st ≡ Some Win → st ≢ Free → st ≡ Pending
 by_pending job s w Free e busy = absurd (busy refl)
 by_pending job s w Pending e busy = refl
-by_pending job s w Executing e busy = absurd (grind arith)
-by_pending job s w (Served receipt) e busy = absurd (grind arith)
+by_pending job s w _ e busy = absurd (grind arith)
 
 -- a turn wins the flag for a pending worker alone
 pub wins_pending : (job : CoreJob) (s : CoreState) (w : ℕ) → Needs job s.state w Win → choice job s w ≡ Some Win → s.state.status w ≡ Pending
@@ -64,9 +63,7 @@ leaf_start p (Some op) = omega arith
 
 start_cost : (job : CoreJob) (k : Option Kind) → first_cost k + leaf_cost job k ≤ 6 + one_if_call job k * (job.workers + 6)
 start_cost job (Some (LeafNode u)) = let a = leaf_start job.workers (op_in (job.act u)) in omega (arith, a)
-start_cost job (Some (SeqNode l r)) = omega arith
-start_cost job (Some (ParNode l r)) = omega arith
-start_cost job None = omega arith
+start_cost job _ = omega arith
 
 total_bound : (f g : ℕ → ℕ) (k n : ℕ) → ((m : ℕ) → f m ≤ 6 + g m * k) → total f n ≤ 6 * n + total g n * k
 total_bound f g k zero h = omega arith

@@ -1,6 +1,6 @@
 -- What is known of a state whose root is done, of its leaves and its workers.
 use Rattle.std.proofs.Common.{ℕ, ◌≡◌, ◌≢◌, ◌<◌, true, None, Some, inl, refl, sym, ◌∙◌}
-use Rattle.core_model.proofs.Words.{LeafNode, Tree, leaves, IsPlan, IsPlanOf, Progress, Waiting, Ready, Taken, Done, Ran, Idle, CoreJob, State, is_done}
+use Rattle.core_model.proofs.Words.{LeafNode, Tree, leaves, IsPlan, IsPlanOf, Progress, Done, Ran, Idle, CoreJob, State, is_done}
 use Rattle.core_model.specs.Ranges.{LeafIn}
 use Rattle.core_model.specs.Invariant.{Parts}
 use Rattle.core_model.specs.Reports.{HasRun}
@@ -19,11 +19,9 @@ pub record IsEnded (job : CoreJob) (total : ℕ) (s : State) : Type 0 where
 
 -- a leaf that is done has run
 has_run : (progress : Progress) → is_done progress ≡ true → progress ≢ Done → HasRun progress
-has_run Waiting done not = cc
-has_run Ready done not = cc
-has_run Taken done not = cc
 has_run Done done not = absurd (not refl)
 has_run (Ran w s e) done not = (w, s, e, refl)
+has_run _ done not = cc
 
 -- a state whose root is done
 pub run_ended : (job : CoreJob) (tree : Tree) (s : State) → IsPlanOf job.plan tree → IsPlan job.plan

@@ -1,6 +1,6 @@
 -- Once the root is done, all is done: each node is done, and no worker has a task, a call or the flag.
 use Rattle.std.proofs.Common.{ℕ, zero, suc, ◌≡◌, ◌≢◌, ◌<◌, Option, None, Some, true, arith, refl, sym, ◌∙◌}
-use Rattle.core_model.proofs.Words.{Kind, Move, Root, OpenSecond, FinishParent, Arrive, Nodes, IsPlan, HasSide, IsSide, Progress, Taken, Task, Idle, Run, Half, Started, Kept, Ended, Whole, Handed, Status, Free, Pending, Executing, Served, Out, CoreJob, Hold, State, is_done}
+use Rattle.core_model.proofs.Words.{Kind, Move, Root, OpenSecond, FinishParent, Arrive, Nodes, IsPlan, HasSide, IsSide, Progress, Taken, Task, Idle, Run, Half, Started, Kept, Ended, Whole, Handed, Status, Free, Out, CoreJob, Hold, State, is_done}
 use Rattle.sp_order.specs.Plans.{itself}
 use Rattle.core_model.specs.Invariant.Tasks.{TaskFits}
 use Rattle.core_model.specs.Invariant.Statuses.{IsAtCall}
@@ -26,9 +26,7 @@ no_task (Handed p) plan node mark none h = absurd (none p h.3)
 -- a status that is not trapped is free
 pub is_free : (status : Status) → (status ≢ Free → ⊥) → status ≡ Free
 is_free Free h = refl
-is_free Pending h = absurd (h (λ e. cc))
-is_free Executing h = absurd (h (λ e. cc))
-is_free (Served receipt) h = absurd (h (λ e. cc))
+is_free _ h = absurd (h (λ e. cc))
 
 module _ (job : CoreJob) (s : State) (laws : IsPlan job.plan) (h : Parts job s) (done : is_done (s.node 0) ≡ true) where
   -- a node is done if those with lower numbers are

@@ -1,7 +1,7 @@
 -- The tasks, as the root is done.
 use Rattle.std.proofs.Common.{ℕ, ◌≡◌, ◌≢◌, ◌<◌, ◌+◌, ◌⊎◌, true, Option, Some, None, arith, refl, ap}
 use Rattle.std.proofs.lemmas.Bool.Decides.{nat_tests}
-use Rattle.core_model.proofs.Words.{Kind, LeafNode, SeqNode, ParNode, Root, Nodes, IsPlan, IsSide, parent_of, Progress, Waiting, Taken, Task, Idle, put, is_done, names}
+use Rattle.core_model.proofs.Words.{Kind, SeqNode, ParNode, Root, Nodes, IsPlan, IsSide, parent_of, Progress, Waiting, Taken, Task, Idle, put, is_done, names}
 use Rattle.core_model.specs.Invariant.Tasks.{TaskFits}
 use Rattle.core_model.proofs.Inductive.Nodes.{InductiveNodes, passed_if, LeftAlone, InductiveTasks}
 use Rattle.core_model.proofs.InvariantLemmas.Puts.{put_each}
@@ -23,10 +23,9 @@ root_alone_par node mark n l r q x done h = grind (arith, nat_tests)
 root_alone : (node : ℕ → Progress) (mark : ℕ → ℕ) (holder : ℕ → Option ℕ) (n k : ℕ) (x : Progress) (a : Option Kind) (q : ℕ) → is_done x ≡ true
     → ((l r : ℕ) → a ≡ Some (SeqNode l r) → (l ≢ n) × (r ≢ n) × (l ≢ k) × (r ≢ k))
     → LeftAlone a node mark holder q → LeftAlone a (put node n x) mark (put holder k None) q
-root_alone node mark holder n k x (Some (LeafNode u)) q done away h = h
-root_alone node mark holder n k x None q done away h = h
 root_alone node mark holder n k x (Some (SeqNode l r)) q done away h = root_alone_seq node holder n k l r x (away l r refl) h
 root_alone node mark holder n k x (Some (ParNode l r)) q done away h = root_alone_par node mark n l r q x done h
+root_alone node mark holder n k x _ q done away h = h
 
 module _ (plan : Nodes) (node : ℕ → Progress) (mark : ℕ → ℕ) (task : ℕ → Task) (holder : ℕ → Option ℕ) (w : ℕ)
     (laws : IsPlan plan) (nodes : InductiveNodes plan node) (h : InductiveTasks plan node mark task holder) where

@@ -1,6 +1,6 @@
 -- The runs of the live workers, where some have stopped.
 use Rattle.std.proofs.Common.{ℕ, ◌≡◌, ◌≢◌, ◌<◌, ◌+◌, ◌%◌, ◌⊎◌, Bool, true, false, Option, Some, None, refl, inl, inr, subst, sym, ◌∙◌, ap}
-use Rattle.core_model.proofs.Words.{IsPlan, IsPlanOf, Tree, Idle, Run, Half, Started, Kept, Ended, Handed, Event, Claim, Start, OpenParRight, OpenParLeft, OpenSeqLeft, OpenSeqRight, Post, Win, Take, Publish, Answer, Release, Leave, Keep, End, FinishLeaf, FinishSeq, FinishPar, ArriveFirst, ArriveSecond, CoreJob, State, CoreState, is_done}
+use Rattle.core_model.proofs.Words.{IsPlan, IsPlanOf, Tree, Idle, Run, Half, Started, Kept, Ended, Handed, Event, Claim, Start, OpenParRight, OpenParLeft, OpenSeqLeft, OpenSeqRight, Post, Publish, Keep, End, FinishLeaf, FinishSeq, FinishPar, ArriveFirst, ArriveSecond, CoreJob, State, CoreState, is_done}
 use Rattle.core_model.specs.Choice.{choice}
 use Rattle.core_model.specs.Events.{Does, task_after}
 use Rattle.core_model.specs.Invariant.{Invariant}
@@ -23,11 +23,6 @@ other_task job s new w v (OpenParLeft p l r) other does = ap (λ (t : State). t.
 other_task job s new w v (OpenSeqLeft p l r) other does = ap (λ (t : State). t.task v) does ∙ put_other s.task w v Idle other
 other_task job s new w v (OpenSeqRight p l r) other does = ap (λ (t : State). t.task v) does ∙ put_other s.task w v Idle other
 other_task job s new w v (Post n t) other does = ap (λ (t : State). t.task v) does
-other_task job s new w v Win other does = ap (λ (t : State). t.task v) does
-other_task job s new w v (Take u) other does = ap (λ (t : State). t.task v) does
-other_task job s new w v (Answer u r) other does = ap (λ (t : State). t.task v) does
-other_task job s new w v Release other does = ap (λ (t : State). t.task v) does
-other_task job s new w v (Leave r) other does = ap (λ (t : State). t.task v) does
 other_task job s new w v (Keep n t x) other does = ap (λ (t : State). t.task v) does ∙ put_other s.task w v (Kept n t) other
 other_task job s new w v (End n t) other does = ap (λ (t : State). t.task v) does ∙ put_other s.task w v (Ended n t s.tick) other
 other_task job s new w v (FinishLeaf n t e) other does = ap (λ (t : State). t.task v) does ∙ put_other s.task w v (task_after n) other
@@ -35,6 +30,7 @@ other_task job s new w v (FinishSeq p l r) other does = ap (λ (t : State). t.ta
 other_task job s new w v (FinishPar p l r) other does = ap (λ (t : State). t.task v) does ∙ put_other s.task w v (task_after p) other
 other_task job s new w v (ArriveFirst p l r n) other does = ap (λ (t : State). t.task v) does ∙ put_other s.task w v Idle other
 other_task job s new w v (ArriveSecond p l r n) other does = ap (λ (t : State). t.task v) does ∙ put_other s.task w v (Handed p) other
+other_task job s new w v _ other does = ap (λ (t : State). t.task v) does
 
 other_task_by : (job : CoreJob) (s new : CoreState) (w v : ℕ) (o : Option Event) → v ≢ w → IsTurnOf job s w o new → new.state.task v ≡ s.state.task v
 other_task_by job s new w v None other turn = ap (λ (t : CoreState). t.state.task v) turn
@@ -49,11 +45,10 @@ turn_keeps : (job : CoreJob) (s new : CoreState) (w : ℕ) → IsPlan job.plan �
 turn_keeps job s new w laws h turn = kept_by job s new w (choice job s w) laws h turn
 
 pub live_keeps : (job : CoreJob) (live : ℕ → Bool) (first last : CoreState) (robin : ℕ) → IsPlan job.plan → Invariant job first → LiveDrive job live first robin last → Invariant job last
-live_keeps job live first last robin laws h (over done) = h
-live_keeps job live first last robin laws h (stuck going none) = h
 live_keeps job live first last robin laws h (by_live {next = next} going on turn drives) =
     live_keeps job live next last ((robin + 1) % job.workers) laws (turn_keeps job first next robin laws h turn) drives
 live_keeps job live first last robin laws h (past_stopped going off drives) = live_keeps job live first last ((robin + 1) % job.workers) laws h drives
+live_keeps job live first last robin laws h _ = h
 
 -- a turn makes no event of a live worker where none can happen
 still_of : (job : CoreJob) (live : ℕ → Bool) (s new : CoreState) (w : ℕ) (o : Option Event) → NoLiveEvent job live s → live w ≡ true → IsTurnOf job s w o new → new ≡ s
@@ -61,12 +56,11 @@ still_of job live s new w None none on turn = turn
 still_of job live s new w (Some event) none on turn = absurd (none w on event new turn)
 
 stuck_stays : (job : CoreJob) (live : ℕ → Bool) (s last : CoreState) (robin : ℕ) → NoLiveEvent job live s → LiveDrive job live s robin last → last ≡ s
-stuck_stays job live s last robin none (over done) = refl
-stuck_stays job live s last robin none (stuck going none') = refl
 stuck_stays job live s last robin none (by_live {next = next} going on turn drives) =
     let same : next ≡ s = still_of job live s next robin (choice job s robin) none on turn in
     stuck_stays job live next last ((robin + 1) % job.workers) (subst (NoLiveEvent job live) (sym same) none) drives ∙ same
 stuck_stays job live s last robin none (past_stopped going off drives) = stuck_stays job live s last ((robin + 1) % job.workers) none drives
+stuck_stays job live s last robin none _ = refl
 
 -- how a run of the live workers begins: it ends at once, or with a turn, or it passes one over that has stopped
 abbrev Begins : CoreJob → (ℕ → Bool) → CoreState → ℕ → CoreState → Type 0

@@ -4,7 +4,7 @@ use Rattle.std.specs.Prelude.{Contains}
 use Rattle.std.specs.List.{AllByRecursion}
 use Rattle.seq_objects.specs.Stores.{Store, store_after, store_reply}
 use Rattle.seq_objects.specs.BatchOrder.{ComesFirst}
-use Rattle.core_model.proofs.Words.{Op, Entry, Event, Claim, Start, OpenParRight, OpenParLeft, OpenSeqLeft, OpenSeqRight, Post, Win, Take, Publish, Answer, Release, Leave, Keep, End, FinishLeaf, FinishSeq, FinishPar, ArriveFirst, ArriveSecond, CoreJob, State}
+use Rattle.core_model.proofs.Words.{Op, Entry, Event, Publish, CoreJob, State}
 use Rattle.seq_objects.specs.Pairs.{AllPairsByRecursion, AreDistinct}
 use Rattle.batch_history.specs.Book.{IsLegalFrom}
 use Rattle.core_model.specs.Serving.{served}
@@ -127,23 +127,5 @@ published_state s batch = record s { book = s.book ++ batch ∷ []; objects = se
 
 -- an event makes one state of a state
 pub one_state : (job : CoreJob) (s : State) (w : ℕ) (event : Event) (a b : State) → Does job s w event a → Does job s w event b → a ≡ b
-one_state job s w (Claim n) a b h g = h ∙ sym g
-one_state job s w (Start n) a b h g = h ∙ sym g
-one_state job s w (OpenParRight p l r) a b h g = h ∙ sym g
-one_state job s w (OpenParLeft p l r) a b h g = h ∙ sym g
-one_state job s w (OpenSeqLeft p l r) a b h g = h ∙ sym g
-one_state job s w (OpenSeqRight p l r) a b h g = h ∙ sym g
-one_state job s w (Post n t) a b h g = h ∙ sym g
-one_state job s w Win a b h g = h ∙ sym g
-one_state job s w (Take u) a b h g = h ∙ sym g
-one_state job s w (Answer u r) a b h g = h ∙ sym g
-one_state job s w Release a b h g = h ∙ sym g
-one_state job s w (Leave r) a b h g = h ∙ sym g
-one_state job s w (Keep n t v) a b h g = h ∙ sym g
-one_state job s w (End n t) a b h g = h ∙ sym g
-one_state job s w (FinishLeaf n t e) a b h g = h ∙ sym g
-one_state job s w (FinishSeq p l r) a b h g = h ∙ sym g
-one_state job s w (FinishPar p l r) a b h g = h ∙ sym g
-one_state job s w (ArriveFirst p l r n) a b h g = h ∙ sym g
-one_state job s w (ArriveSecond p l r n) a b h g = h ∙ sym g
 one_state job s w Publish a b h g = h.2 ∙ (ap (published_state s) (one_batch job s h.0 g.0 h.1 g.1) ∙ sym g.2)
+one_state job s w _ a b h g = h ∙ sym g

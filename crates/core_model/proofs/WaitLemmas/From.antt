@@ -1,6 +1,6 @@
 -- A call that is pending comes into none of the batches that stand.
 use Rattle.std.proofs.Common.{ℕ, ◌≡◌, ◌≢◌, ◌≤◌, ◌+◌, ◌⊎◌, Bool, Option, Some, None, List, [], ◌∷◌, ◌++◌, length, arith, refl, inl, inr, ◌∙◌, ap, length-append}
-use Rattle.core_model.proofs.Words.{IsPlan, Entry, Progress, Taken, Task, Idle, Run, Half, Started, Kept, Ended, Handed, Status, Free, Pending, Served, CallState, Out, Receipt, Event, Claim, Start, OpenParRight, OpenParLeft, OpenSeqLeft, OpenSeqRight, Post, Win, Take, Publish, Answer, Release, Leave, Keep, End, FinishLeaf, FinishSeq, FinishPar, ArriveFirst, ArriveSecond, CoreJob, State, names}
+use Rattle.core_model.proofs.Words.{IsPlan, Entry, Progress, Taken, Task, Idle, Run, Half, Started, Kept, Ended, Handed, Status, Free, Pending, Served, CallState, Out, Receipt, Event, Claim, Start, OpenParRight, OpenParLeft, OpenSeqLeft, OpenSeqRight, Publish, Keep, End, FinishLeaf, FinishSeq, FinishPar, ArriveFirst, ArriveSecond, CoreJob, State, names}
 use Rattle.core_model.specs.Operations.{Place, place_in, or_else, place_of, IsReceipt}
 use Rattle.core_model.specs.Events.{task_after, Happens}
 use Rattle.core_model.specs.Invariant.Hold.{is_published}
@@ -58,13 +58,7 @@ task_kept job s new w (OpenParRight p l r) v go trapped = rw go.does (other_task
 task_kept job s new w (OpenParLeft p l r) v go trapped = rw go.does (other_task s w v Idle go.needs.0 trapped, inl refl)
 task_kept job s new w (OpenSeqLeft p l r) v go trapped = rw go.does (other_task s w v Idle go.needs.0 trapped, inl refl)
 task_kept job s new w (OpenSeqRight p l r) v go trapped = rw go.does (other_task s w v Idle go.needs.0 trapped, inl refl)
-task_kept job s new w (Post n t) v go trapped = rw go.does (refl, inl refl)
-task_kept job s new w Win v go trapped = rw go.does (refl, inl refl)
-task_kept job s new w (Take u) v go trapped = rw go.does (refl, inl refl)
 task_kept job s new w Publish v go trapped = rw go.does.2 (refl, inr (go.does.0, refl))
-task_kept job s new w (Answer u r) v go trapped = rw go.does (refl, inl refl)
-task_kept job s new w Release v go trapped = rw go.does (refl, inl refl)
-task_kept job s new w (Leave r) v go trapped = rw go.does (refl, inl refl)
 task_kept job s new w (Keep n t value) v go trapped = rw go.does (other_task s w v (Kept n t) go.needs.0 trapped, inl refl)
 task_kept job s new w (End n t) v go trapped = rw go.does (other_task s w v (Ended n t s.tick) go.needs.0 trapped, inl refl)
 task_kept job s new w (FinishLeaf n t e) v go trapped = rw go.does (other_task s w v (task_after n) go.needs.0 trapped, inl refl)
@@ -72,6 +66,7 @@ task_kept job s new w (FinishSeq p l r) v go trapped = rw go.does (other_task s 
 task_kept job s new w (FinishPar p l r) v go trapped = rw go.does (other_task s w v (task_after p) go.needs.0 trapped, inl refl)
 task_kept job s new w (ArriveFirst p l r n) v go trapped = rw go.does (other_task s w v Idle go.needs.0 trapped, inl refl)
 task_kept job s new w (ArriveSecond p l r n) v go trapped = rw go.does (other_task s w v (Handed p) go.needs.0 trapped, inl refl)
+task_kept job s new w _ v go trapped = rw go.does (refl, inl refl)
 
 -- the first of two places, where a new one is past the number
 either_from : (p q : Option Place) (k : ℕ) → StandsFrom p k → ((x : Place) → q ≡ Some x → k ≤ x.batch) → StandsFrom (or_else p q) k

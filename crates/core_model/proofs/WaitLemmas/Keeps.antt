@@ -1,7 +1,7 @@
 -- Each event keeps what is said of a trapped worker that waits.
 use Rattle.std.proofs.Common.{ℕ, ◌≡◌, ◌≢◌, ◌≤◌, ◌+◌, Bool, true, false, if◌then◌else◌, Option, Some, None, List, [], ◌∷◌, ◌++◌, length, arith, refl, inl, inr, subst, sym, ◌∙◌, ap, length-append}
 use Rattle.std.proofs.lemmas.Bool.{cases_eq}
-use Rattle.core_model.proofs.Words.{IsPlan, Entry, Task, Idle, Run, Half, Started, Kept, Ended, Handed, Status, Free, Pending, Executing, Served, Receipt, Event, Claim, Start, OpenParRight, OpenParLeft, OpenSeqLeft, OpenSeqRight, Post, Win, Take, Publish, Answer, Release, Leave, Keep, End, FinishLeaf, FinishSeq, FinishPar, ArriveFirst, ArriveSecond, put, CoreJob, Hold, State}
+use Rattle.core_model.proofs.Words.{IsPlan, Entry, Task, Idle, Run, Half, Started, Kept, Ended, Handed, Status, Free, Pending, Executing, Served, Receipt, Event, Claim, Start, OpenParRight, Post, Win, Take, Publish, Answer, Release, Leave, Keep, End, FinishLeaf, FinishSeq, FinishPar, ArriveSecond, put, CoreJob, Hold, State}
 use Rattle.core_model.specs.Operations.{Place}
 use Rattle.core_model.specs.Serving.{served}
 use Rattle.core_model.specs.Events.{task_after, is_pending, new_hold, looked, published, answered, Needs, IsBatchOf, Happens}
@@ -132,9 +132,6 @@ pub waits_kept : (job : CoreJob) (s new : State) (w : ℕ) (event : Event) (v si
 waits_kept job s new w (Claim n) v since laws h go trapped waits = becomes job v since go.does (task_waits job s w v since (Run n) go.needs.0 waits)
 waits_kept job s new w (Start n) v since laws h go trapped waits = becomes job v since go.does (task_waits job s w v since (Started n s.tick) go.needs.0 waits)
 waits_kept job s new w (OpenParRight p l r) v since laws h go trapped waits = becomes job v since go.does (task_waits job s w v since (Half p) go.needs.0 waits)
-waits_kept job s new w (OpenParLeft p l r) v since laws h go trapped waits = becomes job v since go.does (task_waits job s w v since Idle go.needs.0 waits)
-waits_kept job s new w (OpenSeqLeft p l r) v since laws h go trapped waits = becomes job v since go.does (task_waits job s w v since Idle go.needs.0 waits)
-waits_kept job s new w (OpenSeqRight p l r) v since laws h go trapped waits = becomes job v since go.does (task_waits job s w v since Idle go.needs.0 waits)
 waits_kept job s new w (Post n t) v since laws h go trapped waits = becomes job v since go.does
     (status_waits s.status (length s.book) s.hold (task_place job s.book (s.task v)) w v since Pending (other_worker s w v go.needs.0 (waits_trapped job s v since waits)) waits)
 waits_kept job s new w Win v since laws h go trapped waits = becomes job v since go.does (win_waits job s w v since (parts_stand job s h) go.needs.2 waits)
@@ -149,5 +146,5 @@ waits_kept job s new w (End n t) v since laws h go trapped waits = becomes job v
 waits_kept job s new w (FinishLeaf n t e) v since laws h go trapped waits = becomes job v since go.does (task_waits job s w v since (task_after n) go.needs.0 waits)
 waits_kept job s new w (FinishSeq p l r) v since laws h go trapped waits = becomes job v since go.does (task_waits job s w v since (task_after p) go.needs.0 waits)
 waits_kept job s new w (FinishPar p l r) v since laws h go trapped waits = becomes job v since go.does (task_waits job s w v since (task_after p) go.needs.0 waits)
-waits_kept job s new w (ArriveFirst p l r n) v since laws h go trapped waits = becomes job v since go.does (task_waits job s w v since Idle go.needs.0 waits)
 waits_kept job s new w (ArriveSecond p l r n) v since laws h go trapped waits = becomes job v since go.does (task_waits job s w v since (Handed p) go.needs.0 waits)
+waits_kept job s new w _ v since laws h go trapped waits = becomes job v since go.does (task_waits job s w v since Idle go.needs.0 waits)

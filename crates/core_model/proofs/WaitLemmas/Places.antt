@@ -1,6 +1,6 @@
 -- Where the entry of a trapped worker's call stands.
 use Rattle.std.proofs.Common.{ℕ, ◌≡◌, ◌≤◌, ◌+◌, true, Option, Some, None, List, [], ◌∷◌, ◌++◌, length, arith, refl, inr}
-use Rattle.core_model.proofs.Words.{LeafNode, Entry, Taken, Task, Idle, Run, Half, Started, Kept, Ended, Whole, Handed, Executing, Out, Receipt, CoreJob, State}
+use Rattle.core_model.proofs.Words.{LeafNode, Entry, Taken, Task, Started, Executing, Out, Receipt, CoreJob, State}
 use Rattle.core_model.specs.Operations.{IsCall, Place, place_in, or_else, place_of, IsReceipt}
 use Rattle.core_model.specs.Invariant.Tasks.{TaskFits}
 use Rattle.core_model.specs.Invariant.Statuses.{IsAtCall, HasReceipt}
@@ -25,15 +25,9 @@ pub record TrappedCall (job : CoreJob) (s : State) (w : ℕ) : Type 0 where
 
 -- a task that is started at a leaf that calls
 at_started : (job : CoreJob) (s : State) (w : ℕ) (t : Task) → s.task w ≡ t → TaskFits job.plan s.node s.mark t → IsAtCall job t → TrappedCall job s w
-at_started job s w Idle mine fits call = absurd call
-at_started job s w (Run n) mine fits call = absurd call
-at_started job s w (Half n) mine fits call = absurd call
 at_started job s w (Started n a) mine fits call =
     record { node = n; start = a; leaf = fits.0.0; task = mine; kind = fits.0.1; taken = fits.1; call = rw fits.0.1 at call }
-at_started job s w (Kept n a) mine fits call = absurd call
-at_started job s w (Ended n a e) mine fits call = absurd call
-at_started job s w (Whole n) mine fits call = absurd call
-at_started job s w (Handed n) mine fits call = absurd call
+at_started job s w _ mine fits call = absurd call
 
 -- a trapped worker has one
 pub trapped_call : (job : CoreJob) (s : State) (w : ℕ) → Parts job s → IsTrapped s w → TrappedCall job s w

@@ -42,9 +42,7 @@ answer_row count h p r v since there waits = waits.1 there
 pub other_row : (st : Status) (count : ℕ) (h : Hold) (p : Option Place) (u v since : ℕ)
     → StatusWaits st count (Some h) p v since → StatusWaits st count (answered (Some h) u) p v since
 other_row Free count h p u v since waits = waits
-other_row Pending count h p u v since waits = waits
-other_row Executing count h p u v since waits = waits
-other_row (Served r) count h p u v since waits = waits
+other_row _ count h p u v since waits = waits
 
 -- the flag is released
 pub release_row : (st : Status) (count : ℕ) (o : Option Hold) (p : Option Place) (v since : ℕ) → st ≢ Executing

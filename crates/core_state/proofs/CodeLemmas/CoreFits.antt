@@ -35,14 +35,8 @@ book_is t = refl
 
 -- a worker that is at a call has started a leaf
 has_leaf : (job : CoreJob) (node : ℕ → Progress) (mark : ℕ → ℕ) (task : Task) → TaskFits job.plan node mark task → IsAtCall job task → HasLeaf job.plan task
-has_leaf job node mark Idle fits call = absurd call
-has_leaf job node mark (Run n) fits call = absurd call
-has_leaf job node mark (Half n) fits call = absurd call
 has_leaf job node mark (Started n s) fits call = fits.0
-has_leaf job node mark (Kept n s) fits call = absurd call
-has_leaf job node mark (Ended n s e) fits call = absurd call
-has_leaf job node mark (Whole n) fits call = absurd call
-has_leaf job node mark (Handed n) fits call = absurd call
+has_leaf job node mark _ fits call = absurd call
 
 pub looks : (setting : Setting) (t : StoredState) → Represents setting t → CanChoose setting t
 looks setting t h =

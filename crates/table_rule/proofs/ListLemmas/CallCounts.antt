@@ -3,13 +3,11 @@ use Rattle.std.proofs.Common.{ℕ, zero, suc, ◌≡◌, ◌≤◌, ◌+◌, ap,
 use Rattle.core_model.specs.State.{CoreJob}
 use Rattle.core_model.specs.Operations.{op_in}
 use Rattle.core_model.specs.Measure.{call_count, one_if_call, one_if, total}
-use Rattle.core_model.specs.Words.{Kind, LeafNode, SeqNode, ParNode}
+use Rattle.core_model.specs.Words.{Kind, LeafNode}
 
 pub one_at_most : (job : CoreJob) (kind : Maybe Kind) → one_if_call job kind ≤ 1
-one_at_most job None = omega arith
 one_at_most job (Some (LeafNode u)) = elim (op_in (job.act u)) as (λ o. one_if o ≤ 1) [ None ↦ omega arith | Some op ↦ omega arith ]
-one_at_most job (Some (SeqNode l r)) = omega arith
-one_at_most job (Some (ParNode l r)) = omega arith
+one_at_most job _ = omega arith
 
 total_few : (f : ℕ → ℕ) (n : ℕ) → ((m : ℕ) → f m ≤ 1) → total f n ≤ n
 total_few f zero h = omega arith

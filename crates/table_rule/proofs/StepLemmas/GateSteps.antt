@@ -65,22 +65,16 @@ free_flag None e = refl
 free_flag (Some h) e = absurd (omega (arith, e))
 
 pending_word : (st : Status) → status_code st ≡ 1 → st ≡ Pending
-pending_word Free e = absurd (omega (arith, e))
 pending_word Pending e = refl
-pending_word Executing e = absurd (omega (arith, e))
-pending_word (Served r) e = absurd (omega (arith, e))
+pending_word _ e = absurd (omega (arith, e))
 
 other_word : (st : Status) → status_code st ≢ 1 → is_pending st ≡ false
-other_word Free e = refl
 other_word Pending e = absurd (e refl)
-other_word Executing e = refl
-other_word (Served r) e = refl
+other_word _ e = refl
 
 served_word : (st : Status) → status_code st ≡ 3 → (r : Receipt) × (st ≡ Served r)
-served_word Free e = absurd (omega (arith, e))
-served_word Pending e = absurd (omega (arith, e))
-served_word Executing e = absurd (omega (arith, e))
 served_word (Served r) e = (r, refl)
+served_word _ e = absurd (omega (arith, e))
 
 called_got : (c : CallState) (r : Receipt) → c ≡ NotCalled → c ≡ Got r → ⊥
 called_got c r e f = absurd (cc)

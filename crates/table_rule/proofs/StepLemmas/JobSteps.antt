@@ -8,7 +8,7 @@ use prog.Atomic.{either}
 use Rattle.atomic_table.specs.Table.{step, Act, keeps, Valid, carried_after, stepped}
 use Rattle.atomic_table.proofs.Lists.{exchanged}
 use Rattle.core_model.specs.declared.progress.Progress.{Progress}
-use Rattle.core_model.specs.declared.progress.Progress.TheVariants.{Waiting, Ready, Taken as IsTaken, Done, Ran}
+use Rattle.core_model.specs.declared.progress.Progress.TheVariants.{Ready, Taken as IsTaken}
 use Rattle.core_model.specs.declared.task.Task.{Task}
 use Rattle.core_model.specs.declared.task.Task.TheVariants.{Idle, Run, Started, Kept, Ended, Handed}
 use Rattle.core_model.specs.declared.status.CallState.TheVariants.{NotCalled, Out}
@@ -45,11 +45,8 @@ use Rattle.table_rule.proofs.TableLemmas.Moved.{mine_of, job_step, looked, found
 use Rattle.core_model.proofs.InvariantLemmas.Puts.{put_at, put_other}
 
 ready_word : (p : Progress) → progress_code p ≡ 1 → p ≡ Ready
-ready_word Waiting e = absurd (omega (arith, e))
 ready_word Ready e = refl
-ready_word IsTaken e = absurd (omega (arith, e))
-ready_word Done e = absurd (omega (arith, e))
-ready_word (Ran w s d) e = absurd (omega (arith, e))
+ready_word _ e = absurd (omega (arith, e))
 
 -- the root stays done when the progress of a node that is not done changes
 root_kept : (node : ℕ → Progress) (n : ℕ) (x : Progress) → is_done (node n) ≡ false → is_done (node 0) ≡ true → is_done (put node n x 0) ≡ true
@@ -167,13 +164,7 @@ module _ (job : CoreJob) (room : ℕ) (laws : Laws job) (slots id : ℕ) (v : Vi
       → StepRefines job room slots id (v, xs) (tick_at P) (λ y. (y + 1) % 2 ^ 64) (drawn (step slots (tick_at P) 1 0 none) (v, xs)) (λ before found after. (event : Event) × MakesEvent job k event before found after)
   draws_by (Some (acts.Start n leaf)) here due is inside t o wide me fits = let x = starts n leaf here due inside t o wide me fits in (x.0, x.1, x.2, (x.3.0, (Start n, x.3.1)), x.4)
   draws_by (Some (acts.End n start)) here due is inside t o wide me fits = let x = ends n start here due inside t o wide me fits in (x.0, x.1, x.2, (x.3.0, (End n start, x.3.1)), x.4)
-  draws_by None here due is inside t o wide me fits = absurd is
-  draws_by (Some (acts.Open n y event)) here due is inside t o wide me fits = absurd is
-  draws_by (Some (acts.Spin n start steps)) here due is inside t o wide me fits = absurd is
-  draws_by (Some (acts.Call n start leaf op)) here due is inside t o wide me fits = absurd is
-  draws_by (Some (acts.Got n start reply)) here due is inside t o wide me fits = absurd is
-  draws_by (Some (acts.Finish n event)) here due is inside t o wide me fits = absurd is
-  draws_by (Some (acts.Arrive p l r n)) here due is inside t o wide me fits = absurd is
+  draws_by _ here due is inside t o wide me fits = absurd is
 
   -- a tick that is due, at its start or its end
   pub draws_due : TaskHere job v.own.task → IsTickDue (next_act job v.own.task v.own.call) → v.own.call ≢ Out

@@ -8,9 +8,9 @@ use prog.Atomic.{either}
 use Rattle.atomic_table.specs.Table.{step, Act, keeps, Valid, carried_after, stepped}
 use Rattle.atomic_table.proofs.Lists.{exchanged}
 use Rattle.core_model.specs.declared.progress.Progress.{Progress}
-use Rattle.core_model.specs.declared.progress.Progress.TheVariants.{Waiting, Ready, Taken as IsTaken, Done, Ran}
+use Rattle.core_model.specs.declared.progress.Progress.TheVariants.{Done, Ran}
 use Rattle.core_model.specs.declared.status.Status.{Status}
-use Rattle.core_model.specs.declared.status.Status.TheVariants.{Free, Pending, Executing, Served}
+use Rattle.core_model.specs.declared.status.Status.TheVariants.{Free}
 use Rattle.seq_objects.specs.Objects.{value_of}
 use Rattle.sp_order.specs.declared.node.Kind.TheVariants.{LeafNode}
 use Rattle.core_model.specs.declared.task.Task.TheVariants.{Started}
@@ -36,17 +36,13 @@ use Rattle.table_rule.proofs.TableLemmas.Through.{again}
 use Rattle.table_rule.proofs.TableLemmas.Words.{set_stop}
 
 done_word : (p : Progress) → progress_code p % 4 ≡ 3 → is_done p ≡ true
-done_word Waiting e = absurd (omega (arith, e))
-done_word Ready e = absurd (omega (arith, e))
-done_word IsTaken e = absurd (omega (arith, e))
 done_word Done e = refl
 done_word (Ran w s d) e = refl
+done_word _ e = absurd (omega (arith, e))
 
 few_status : (st : Status) → status_code st ≤ 3
 few_status Free = omega arith
-few_status Pending = omega arith
-few_status Executing = omega arith
-few_status (Served r) = omega arith
+few_status _ = omega arith
 
 -- the least number told is the first, if later ones are no smaller
 told_least : (after : Maybe ℕ) (n : ℕ) (b : ℕ) → ((c : ℕ) → after ≡ Some c → c ≤ n) → least_told after n ≡ Some b → (after ≡ Some b) ⊎ ((after ≡ None) × (b ≡ n))

@@ -77,24 +77,12 @@ module _ (job : CoreJob) (task : Task) (call : CallState) where
     (n, start, stands.0, stands.2 ∙ ap (λ (u : ℕ). Some (LeafNode u)) (sym is.0), (op, ap (λ (u : ℕ). op_in (job.act u)) is.0 ∙ stands.3, subst (λ (u : ℕ). op_told op (job.source u) told ≡ Some posted.op) (sym is.0) is.1)),
   )
   post_by told None posted is stands = absurd is
-  post_by told (Some (acts.Start n leaf)) posted is stands = absurd is
-  post_by told (Some (acts.Open n y event)) posted is stands = absurd is
-  post_by told (Some (acts.Spin n start steps)) posted is stands = absurd is
-  post_by told (Some (acts.Got n start reply)) posted is stands = absurd is
-  post_by told (Some (acts.End n start)) posted is stands = absurd is
-  post_by told (Some (acts.Finish n event)) posted is stands = absurd is
-  post_by told (Some (acts.Arrive p l r n)) posted is stands = absurd is
+  post_by told _ posted is stands = absurd is
 
   keep_by : (o : Maybe Next) (value : ℕ) → IsKeepDue o value → ActStands job task call o → HasValue job task call value
   keep_by (Some (acts.Spin n start steps)) value is stands = (n, start, stands.0, stands.1 ∙ ap Some (sym is))
   keep_by (Some (acts.Got n start reply)) value is stands = (n, start, stands.0, stands.1 ∙ ap Some (sym is))
-  keep_by None value is stands = absurd is
-  keep_by (Some (acts.Start n leaf)) value is stands = absurd is
-  keep_by (Some (acts.Open n y event)) value is stands = absurd is
-  keep_by (Some (acts.Call n start leaf op)) value is stands = absurd is
-  keep_by (Some (acts.End n start)) value is stands = absurd is
-  keep_by (Some (acts.Finish n event)) value is stands = absurd is
-  keep_by (Some (acts.Arrive p l r n)) value is stands = absurd is
+  keep_by _ value is stands = absurd is
 
 module _ (job : CoreJob) (laws : Laws job) (call : CallState) where
   run_stands : (n : ℕ) (kind : Maybe Kind) → job.plan.kind n ≡ kind → ActStands job (Run n) call (act_of_run kind n)
@@ -116,15 +104,13 @@ module _ (job : CoreJob) (laws : Laws job) (call : CallState) where
   }
 
   half_stands : (p : ℕ) (kind : Maybe Kind) → job.plan.kind p ≡ kind → ActStands job (Half p) call (act_of_half kind p)
-  half_stands p None is = tt
-  half_stands p (Some (LeafNode leaf)) is = tt
-  half_stands p (Some (SeqNode l r)) is = tt
   half_stands p (Some (ParNode l r)) is = record {
     parent = p;
     side = ap parent_of (laws.plan.left_of_par p l r is);
     below = side_below job.plan p l laws.plan (ap parent_of (laws.plan.left_of_par p l r is));
     here = tt;
     happens = λ s k low free task. record { worker_in = low; needs = (free, task, is); does = refl };
+  half_stands p _ is = tt
   }
 
   started_stands : (n start leaf : ℕ) (act : Act) → job.plan.kind n ≡ Some (LeafNode leaf) → job.act leaf ≡ act
@@ -162,13 +148,11 @@ module _ (job : CoreJob) (laws : Laws job) (call : CallState) where
   whole_stands n (moves.Arrive p) after = let sides = laws.arrive n p after in arrive_stands n p sides.0 sides.1 sides.2 sides.3
 
   handed_stands : (p : ℕ) (kind : Maybe Kind) → job.plan.kind p ≡ kind → ActStands job (Handed p) call (act_of_handed kind p)
-  handed_stands p None is = tt
-  handed_stands p (Some (LeafNode leaf)) is = tt
-  handed_stands p (Some (SeqNode l r)) is = tt
   handed_stands p (Some (ParNode l r)) is = record {
     below = block_in job.plan p (ParNode l r) laws.plan is;
     done = λ k. refl;
     happens = λ s k low free task. record { worker_in = low; needs = (free, task, is); does = refl };
+  handed_stands p _ is = tt
   }
 
   pub act_stands : (task : Task) → TaskHere job task → ActStands job task call (next_act job task call)

@@ -14,7 +14,7 @@ use Rattle.core_model.specs.Operations.{op_of, Place}
 use Rattle.core_model.specs.Serving.{served}
 use Rattle.core_model.specs.Events.{Happens, published, IsTakenCall, IsBatchOf}
 use Rattle.core_model.specs.Invariant.Statuses.{is_taken_by}
-use Rattle.core_model.specs.declared.status.Status.TheVariants.{Free, Pending, Executing, Served}
+use Rattle.core_model.specs.declared.status.Status.TheVariants.{Free, Pending, Executing}
 use Rattle.core_model.specs.Invariant.{Parts}
 use Rattle.core_model.specs.Waits.{task_place}
 use Rattle.table_rule.proofs.ListLemmas.CallCounts.{room_few}
@@ -60,8 +60,7 @@ record_kept job laws book batch task call is = (is.0, is.1, is.2, is.3, laws.ope
 record_at_kept : (job : CoreJob) (laws : Laws job) (book : List (List Entry)) (batch : List Entry) (task : Task) (status : Status) (home : SlotHome) → RecordAt job book task status home → RecordAt job (book ++ batch ∷ []) task status home
 record_at_kept job laws book batch task Free home at = tt
 record_at_kept job laws book batch task Pending home at = (at.0, at.1, record_kept job laws book batch task at.0 at.2)
-record_at_kept job laws book batch task Executing home at = at
-record_at_kept job laws book batch task (Served receipt) home at = at
+record_at_kept job laws book batch task _ home at = at
 
 -- `AgreesWithView` after a batch is published
 module _ (job : CoreJob) (laws : Laws job) (s : State) (k : ℕ) (batch : List Entry) (parts : Parts job s) where

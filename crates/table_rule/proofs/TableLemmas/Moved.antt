@@ -15,7 +15,7 @@ use Rattle.core_model.specs.declared.task.Task.{Task}
 use Rattle.core_model.specs.declared.status.Status.{Status}
 use Rattle.core_model.specs.declared.status.Status.TheVariants.{Free}
 use Rattle.core_model.specs.declared.status.CallState.{CallState}
-use Rattle.core_model.specs.declared.status.CallState.TheVariants.{NotCalled, Out, Got}
+use Rattle.core_model.specs.declared.status.CallState.TheVariants.{Out}
 use Rattle.core_model.specs.declared.event.Event.{Event}
 use Rattle.core_model.specs.State.{put, CoreJob, State}
 use Rattle.core_model.specs.Operations.{Place}
@@ -220,9 +220,8 @@ pub record SameBut (v w : View) : Type 0 where
 
 -- a call that is not out adds no entry
 pub present_none : (c : CallState) (place : Maybe Place) → c ≢ Out → present c place ≡ []
-present_none NotCalled place ne = refl
 present_none Out place ne = absurd (ne refl)
-present_none (Got r) place ne = refl
+present_none _ place ne = refl
 
 own_entries : (xs : List Entry) (k : ℕ) (l m : List LeftCall) (c d : CallState) (p q : Maybe Place) → c ≢ Out → d ≢ Out → m ≡ l → xs ≡ map (entry_of k) l ++ present c p → xs ≡ map (entry_of k) m ++ present d q
 own_entries xs k l m c d p q ne ne' same e =

@@ -3,6 +3,7 @@ ghost use Rattle.std.specs.Prelude.{◌≡◌, ◌+◌, ◌<◌, ◌≤◌, ◌/
 ghost use Rattle.batched_counter.specs.Sums.{total};
 ghost use Rattle.batched_counter.specs.Calls.{addend_of, addends};
 ghost use Rattle.batched_counter.specs.Pieces.{IsCutInto, addends_in};
+ghost use Rattle.limits.specs.declared.TheConstants.{MOST_WORKERS};
 
 use crate::piece::Piece;
 use arrayvec::ArrayVec;
@@ -36,7 +37,7 @@ fn addends_of(calls: &[Call]) -> ArrayVec<u64, 2>
 pub(crate) fn pieces_of(alloc: Global, calls: &[Call]) -> Result<Vec<Piece>, AllocError>
     requires fits { total (addends calls.now) < 2 ^ 64 }
     requires some { 0 < length calls.now }
-    requires few { length calls.now ≤ 32 }
+    requires few { length calls.now ≤ MOST_WORKERS }
     ensures cut { IfOk result (λ v. IsCutInto ((length calls.now + 15) / 16) (addends calls.now) (addends_in v.items)) }
     ensures count { IfOk result (λ v. (1 ≤ length v.items) × (length v.items ≤ 16)) }
 {

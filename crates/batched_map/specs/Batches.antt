@@ -6,6 +6,7 @@ use Rattle.rank_nodes.specs.declared.entry.Entry.{Entry}
 use Rattle.batched_map.specs.declared.call.MapOp.{MapOp}
 use Rattle.batched_map.specs.declared.call.MapCall.{MapCall}
 use Rattle.batched_map.specs.Maps.{map_after, map_replies, is_query, op_key, operations}
+use Rattle.limits.specs.declared.TheConstants.{MOST_WORKERS}
 
 -- an update comes before another where its key is less, or the key is the same and the worker less
 abbrev pub IsBeforeByKey : ℕ → ℕ → ℕ → ℕ → Type 0
@@ -24,7 +25,7 @@ ComesFirst first second = ComesFirstOf (is_query first.what) (is_query second.wh
 
 -- the calls are those of one batch: at most 32, in batch order, of distinct workers
 pub record AreMapBatch (calls : List MapCall) : Type 0 where
-  pub few : length calls ≤ 32
+  pub few : length calls ≤ MOST_WORKERS
   pub order : AllPairsByRecursion ComesFirst calls
   pub workers : AreDistinct (map (λ call. call.worker) calls)
 

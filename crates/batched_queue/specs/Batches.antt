@@ -4,6 +4,7 @@ use Rattle.seq_objects.specs.Pairs.{AllPairsByRecursion, AreDistinct}
 use Rattle.seq_objects.specs.declared.reply.Reply.{Reply}
 use Rattle.batched_queue.specs.declared.call.FifoCall.{FifoCall}
 use Rattle.batched_queue.specs.Fifo.{fifo_after, fifo_replies, operations}
+use Rattle.limits.specs.declared.TheConstants.{MOST_WORKERS}
 
 -- the operation of the first worker is served before that of the second: puts before gets, and each by worker
 abbrev pub ComesFirst : Option ℕ → ℕ → Option ℕ → ℕ → Type 0
@@ -14,7 +15,7 @@ ComesFirst None worker None worker' = worker < worker'
 
 -- the calls are those of one batch: at most 32, in batch order, of distinct workers
 pub record AreFifoBatch (calls : List FifoCall) : Type 0 where
-  pub few : length calls ≤ 32
+  pub few : length calls ≤ MOST_WORKERS
   pub order : AllPairsByRecursion (λ first second. ComesFirst first.item first.worker second.item second.worker) calls
   pub workers : AreDistinct (map (λ call. call.worker) calls)
 

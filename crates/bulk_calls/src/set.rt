@@ -6,6 +6,7 @@ ghost use Rattle.bulk_calls.specs.Batches.{AreBulkBatch};
 ghost use Rattle.bulk_calls.specs.declared.piece.Piece.{Piece as PieceOf};
 ghost use Rattle.bulk_calls.specs.Pieces.{Meets, IsContextOf};
 ghost use Rattle.seq_objects.specs.Pieces.{AllMeet};
+ghost use Rattle.limits.specs.declared.TheConstants.{MOST_WORKERS};
 
 use crate::begin::{cut_batch, singles_of};
 use crate::call::BulkCall;
@@ -41,7 +42,7 @@ impl Model for BulkSet {
 
 /// The number of keys of all calls together.
 fn keys_of(calls: &[BulkCall]) -> usize
-    requires { length calls.now ≤ 32 }
+    requires { length calls.now ≤ MOST_WORKERS }
 {
     let mut keys = 0;
     for call in calls {

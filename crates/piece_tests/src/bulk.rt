@@ -2,6 +2,7 @@
 
 use crate::script::{Served, first_wrong};
 use bulk_calls::{BulkCall, BulkKind, BulkOp, BulkSet, Replies, in_batch_order};
+use limits::MOST_WORKERS;
 use std::alloc::{AllocError, Global};
 use std::test::Fail;
 use std::thread::Threads;
@@ -141,7 +142,7 @@ impl Served for BulkSet {
         words: &mut String,
     ) -> Result<BulkSet, AllocError> {
         let operations = operations_of(alloc, calls)?;
-        if operations.len() > 32 {
+        if operations.len() > MOST_WORKERS as usize {
             return Ok(self);
         }
         let calls = in_batch_order(alloc, &operations)?;

@@ -3,6 +3,7 @@
 use crate::script::{Served, first_wrong};
 use crate::words::push_words;
 use batched_map::{MapOp, RankBook, in_batch_order};
+use limits::MOST_WORKERS;
 use std::alloc::{AllocError, Global};
 use std::test::Fail;
 use std::thread::Threads;
@@ -23,7 +24,7 @@ impl Served for RankBook {
         calls: &[MapOp],
         words: &mut String,
     ) -> Result<RankBook, AllocError> {
-        if calls.len() > 32 {
+        if calls.len() > MOST_WORKERS as usize {
             return Ok(self);
         }
         let calls = in_batch_order(alloc, calls)?;

@@ -3,6 +3,7 @@
 use crate::script::{Served, first_wrong};
 use crate::words::push_words;
 use batched_queue::{FifoQueue, in_batch_order};
+use limits::MOST_WORKERS;
 use std::alloc::{AllocError, Global};
 use std::test::Fail;
 use std::thread::Threads;
@@ -23,7 +24,7 @@ impl Served for FifoQueue {
         calls: &[Option<u32>],
         words: &mut String,
     ) -> Result<FifoQueue, AllocError> {
-        if calls.len() > 32 {
+        if calls.len() > MOST_WORKERS as usize {
             return Ok(self);
         }
         let calls = in_batch_order(alloc, calls)?;

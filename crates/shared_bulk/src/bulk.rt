@@ -9,8 +9,7 @@ ghost use Rattle.shared_collections.specs.Bulks.{bulk_set};
 ghost use Rattle.shared_pieces.specs.Batches.{AllMeet, BatchContext};
 ghost use Rattle.shared_bulk.specs.declared.bulk.BulkInPieces.{BulkInPieces as SetOf};
 ghost use Rattle.shared_bulk.specs.Batches.{IsBatchOf};
-ghost use Rattle.limits.specs.declared.TheConstants.{MOST_WORKERS};
-ghost use Rattle.limits.specs.declared.TheConstants.{PLACES};
+ghost use Rattle.limits.specs.declared.TheConstants.{MOST_WORKERS, PLACES};
 
 use bulk_calls::{BulkCall, BulkOp, BulkSet, Piece, Replies, Rest, Served, in_batch_order};
 use shared_calls::{Combined, Helper};

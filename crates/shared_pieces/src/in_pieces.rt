@@ -3,8 +3,7 @@ ghost use Rattle.std.specs.Prelude.{◌≡◌, ℕ, ◌≤◌, length, IfOk, OnE
 ghost use Rattle.std.specs.List.{AllByRecursion};
 ghost use Rattle.shared_calls.specs.Serial.{IsServedInSomeOrder};
 ghost use Rattle.shared_pieces.specs.Batches.{AllMeet, BatchContext};
-ghost use Rattle.limits.specs.declared.TheConstants.{MOST_WORKERS};
-ghost use Rattle.limits.specs.declared.TheConstants.{PLACES};
+ghost use Rattle.limits.specs.declared.TheConstants.{MOST_WORKERS, PLACES};
 
 use shared_calls::Combined;
 use std::alloc::{AllocError, Global};

@@ -6,6 +6,7 @@ ghost use Rattle.shared_calls.specs.Callers.{IsServed};
 ghost use Rattle.shared_calls.specs.Views.{AreNewCallers, IsCallerOf, number_of_callers, number_of, made, seen, is_lost};
 ghost use Rattle.shared_calls.specs.Closing.{AreCallersOf, AreAllCalls};
 ghost use Rattle.shared_structures.specs.Counters.{counter};
+ghost use Rattle.limits.specs.declared.TheConstants.{MOST_WORKERS};
 
 use shared_calls::{Caller, Combined, Failed, Shared};
 use std::alloc::{AllocError, Global};
@@ -29,7 +30,7 @@ impl Combined for Counter {
     ghost fails = { λ c ops. ⊥ };
 
     fn serve(self, _alloc: Global, ops: Vec<u64>) -> Result<(Counter, Vec<u64>), AllocError>
-        requires few { length ops.items ≤ 32 }
+        requires few { length ops.items ≤ MOST_WORKERS }
         ensures served { IfOk result (λ p. IsServedInSomeOrder counter self.number ops.items p.1.items p.0.number) }
         ensures failed { OnErr result ⊥ }
     {
@@ -63,7 +64,7 @@ impl SharedCounter {
         alloc: Global,
         callers: usize,
     ) -> Result<(SharedCounter, Vec<Caller<Counter>>), AllocError>
-        requires count { (1 ≤ callers) × (callers ≤ 32) }
+        requires count { (1 ≤ callers) × (callers ≤ MOST_WORKERS) }
         ensures all { IfOk result (λ r. number_of_callers r.0.shared ≡ callers) }
         ensures callers { IfOk result (λ r. AreNewCallers callers r.0.shared r.1.items) }
     {

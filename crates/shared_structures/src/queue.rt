@@ -13,6 +13,7 @@ ghost use Rattle.shared_structures.specs.Failures.{HasFailed};
 ghost use Rattle.shared_structures.specs.Queues.{queue};
 ghost use Rattle.shared_structures.specs.Code.Batches.{AreSmall};
 ghost use Rattle.shared_structures.specs.Code.Queues.{op_of, answer_of};
+ghost use Rattle.limits.specs.declared.TheConstants.{MOST_WORKERS};
 
 use crate::batches::{Answers, Asks, serve_asked};
 use batched_pq::Queue;
@@ -81,7 +82,7 @@ impl Combined for CombinedQueue {
         alloc: Global,
         ops: Vec<QueueOp>,
     ) -> Result<(CombinedQueue, Vec<QueueReply>), AllocError>
-        requires few { length ops.items ≤ 32 }
+        requires few { length ops.items ≤ MOST_WORKERS }
         ensures served { IfOk result (λ p. IsServedInSomeOrder queue self.queue ops.items p.1.items p.0.queue) }
         ensures failed { OnErr result ⊤ }
     {
@@ -111,7 +112,7 @@ impl SharedQueue {
         alloc: Global,
         callers: usize,
     ) -> Result<(SharedQueue, Vec<Caller<CombinedQueue>>), AllocError>
-        requires count { (1 ≤ callers) × (callers ≤ 32) }
+        requires count { (1 ≤ callers) × (callers ≤ MOST_WORKERS) }
         ensures all { IfOk result (λ r. number_of_callers r.0.shared ≡ callers) }
         ensures callers { IfOk result (λ r. AreNewCallers callers r.0.shared r.1.items) }
     {

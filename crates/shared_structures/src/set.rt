@@ -13,6 +13,7 @@ ghost use Rattle.shared_structures.specs.Failures.{HasFailed};
 ghost use Rattle.shared_structures.specs.Sets.{set};
 ghost use Rattle.shared_structures.specs.Code.Batches.{AreSmall};
 ghost use Rattle.shared_structures.specs.Code.Sets.{op_of, answer_of};
+ghost use Rattle.limits.specs.declared.TheConstants.{MOST_WORKERS};
 
 use crate::batches::{Answers, Asks, serve_asked};
 use batched_tree::TreeSet;
@@ -88,7 +89,7 @@ impl Combined for CombinedSet {
         alloc: Global,
         ops: Vec<SetOp>,
     ) -> Result<(CombinedSet, Vec<SetReply>), AllocError>
-        requires few { length ops.items ≤ 32 }
+        requires few { length ops.items ≤ MOST_WORKERS }
         ensures served { IfOk result (λ p. IsServedInSomeOrder set self.set ops.items p.1.items p.0.set) }
         ensures failed { OnErr result ⊤ }
     {
@@ -118,7 +119,7 @@ impl SharedSet {
         alloc: Global,
         callers: usize,
     ) -> Result<(SharedSet, Vec<Caller<CombinedSet>>), AllocError>
-        requires count { (1 ≤ callers) × (callers ≤ 32) }
+        requires count { (1 ≤ callers) × (callers ≤ MOST_WORKERS) }
         ensures all { IfOk result (λ r. number_of_callers r.0.shared ≡ callers) }
         ensures callers { IfOk result (λ r. AreNewCallers callers r.0.shared r.1.items) }
     {

@@ -13,6 +13,7 @@ ghost use Rattle.shared_structures.specs.Failures.{HasFailed};
 ghost use Rattle.shared_structures.specs.Stacks.{stack};
 ghost use Rattle.shared_structures.specs.Code.Batches.{AreSmall};
 ghost use Rattle.shared_structures.specs.Code.Stacks.{op_of, answer_of};
+ghost use Rattle.limits.specs.declared.TheConstants.{MOST_WORKERS};
 
 use crate::batches::{Answers, Asks, serve_asked};
 use batched_stack::Stack;
@@ -81,7 +82,7 @@ impl Combined for CombinedStack {
         alloc: Global,
         ops: Vec<StackOp>,
     ) -> Result<(CombinedStack, Vec<StackReply>), AllocError>
-        requires few { length ops.items ≤ 32 }
+        requires few { length ops.items ≤ MOST_WORKERS }
         ensures served { IfOk result (λ p. IsServedInSomeOrder stack self.stack.items ops.items p.1.items p.0.stack.items) }
         ensures failed { OnErr result ⊤ }
     {
@@ -111,7 +112,7 @@ impl SharedStack {
         alloc: Global,
         callers: usize,
     ) -> Result<(SharedStack, Vec<Caller<CombinedStack>>), AllocError>
-        requires count { (1 ≤ callers) × (callers ≤ 32) }
+        requires count { (1 ≤ callers) × (callers ≤ MOST_WORKERS) }
         ensures all { IfOk result (λ r. number_of_callers r.0.shared ≡ callers) }
         ensures callers { IfOk result (λ r. AreNewCallers callers r.0.shared r.1.items) }
     {

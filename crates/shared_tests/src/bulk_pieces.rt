@@ -4,6 +4,7 @@ ghost use Rattle.shared_calls.specs.Serial.{IsServedInSomeOrder};
 ghost use Rattle.shared_calls.specs.Views.{IsCallerOf, number_of, is_lost};
 ghost use Rattle.piece_board.specs.Boards.{desk_view, IsDeskOf};
 ghost use Rattle.shared_collections.specs.Bulks.{bulk_set};
+ghost use Rattle.limits.specs.declared.TheConstants.{MOST_WORKERS};
 
 use bulk_calls::{BulkKind, BulkOp, BulkSet, Replies, in_batch_order};
 use shared_bulk::laws::threads_share_sets_in_pieces;
@@ -134,7 +135,7 @@ impl<'a> Helper<BulkInPieces> for Counting<'a> {
         structure: BulkInPieces,
         ops: Vec<BulkOp>,
     ) -> Result<(BulkInPieces, Vec<Replies>), AllocError>
-        requires few { length ops.items ≤ 32 }
+        requires few { length ops.items ≤ MOST_WORKERS }
         ensures served { IfOk result (λ p. IsServedInSomeOrder bulk_set structure.set ops.items p.1.items p.0.set) }
         ensures failed { OnErr result ⊤ }
     {

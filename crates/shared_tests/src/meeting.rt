@@ -8,6 +8,7 @@ ghost use Rattle.shared_pieces.specs.Batches.{AllMeet, BatchContext};
 ghost use Rattle.shared_tests.specs.Tallies.{echo};
 ghost use Rattle.shared_tests.specs.declared.meeting.Echo.{Echo as EchoOf};
 ghost use Rattle.shared_tests.specs.declared.meeting.Visit.{Visit as VisitOf};
+ghost use Rattle.limits.specs.declared.TheConstants.{MOST_WORKERS, PLACES};
 
 use piece_board::{Board, Desk};
 use shared_calls::{Caller, Combined, Helper, Shared};
@@ -49,7 +50,7 @@ impl Combined for Echo {
     ghost fails = { λ t ops. ⊤ };
 
     fn serve(self, _alloc: Global, ops: Vec<u32>) -> Result<(Echo, Vec<u32>), AllocError>
-        requires few { length ops.items ≤ 32 }
+        requires few { length ops.items ≤ MOST_WORKERS }
         ensures served { IfOk result (λ p. IsServedInSomeOrder echo 0 ops.items p.1.items 0) }
         ensures failed { OnErr result ⊤ }
     {
@@ -79,8 +80,8 @@ impl InPieces for Echo {
     }
 
     fn begin(self, alloc: Global, ops: Vec<u32>) -> Result<(Echo, Vec<Visit>), AllocError>
-        requires few { length ops.items ≤ 32 }
-        ensures most { IfOk result (λ p. (length p.1.items ≤ 2) × (length p.1.items ≤ 56)) }
+        requires few { length ops.items ≤ MOST_WORKERS }
+        ensures most { IfOk result (λ p. (length p.1.items ≤ 2) × (length p.1.items ≤ PLACES)) }
         ensures remembers { IfOk result (λ p. ops.items ≡ p.0.batch.items) }
         ensures starved { IfOk result (λ p. AllByRecursion (λ input. ⊤ → ⊤) p.1.items) }
         ensures failed { OnErr result ⊤ }
@@ -133,7 +134,7 @@ impl<'b> Helper<Echo> for PieceHelper<'b, Echo> {
         structure: Echo,
         ops: Vec<u32>,
     ) -> Result<(Echo, Vec<u32>), AllocError>
-        requires few { length ops.items ≤ 32 }
+        requires few { length ops.items ≤ MOST_WORKERS }
         ensures served { IfOk result (λ p. IsServedInSomeOrder echo 0 ops.items p.1.items 0) }
         ensures failed { OnErr result ⊤ }
     {

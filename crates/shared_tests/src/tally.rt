@@ -7,7 +7,9 @@ ghost use Rattle.piece_board.specs.Boards.{desk_view, IsDeskOf};
 ghost use Rattle.shared_pieces.specs.Batches.{AllMeet, BatchContext};
 ghost use Rattle.shared_tests.specs.Tallies.{tally};
 ghost use Rattle.shared_tests.specs.declared.tally.Tally.{Tally as TallyOf};
+ghost use Rattle.limits.specs.declared.TheConstants.{MOST_WORKERS, PLACES};
 
+use limits::MOST_WORKERS;
 use piece_board::{Board, Desk};
 use shared_calls::{Caller, Combined, Helper, Shared};
 use shared_pieces::{InPieces, PieceHelper, Pieces, share_in_pieces};
@@ -46,7 +48,7 @@ impl Combined for Tally {
     ghost fails = { λ t ops. ⊤ };
 
     fn serve(self, alloc: Global, ops: Vec<u32>) -> Result<(Tally, Vec<u64>), AllocError>
-        requires few { length ops.items ≤ 32 }
+        requires few { length ops.items ≤ MOST_WORKERS }
         ensures served { IfOk result (λ p. IsServedInSomeOrder tally self.sum ops.items p.1.items p.0.sum) }
         ensures failed { OnErr result ⊤ }
     {
@@ -66,9 +68,9 @@ impl InPieces for Tally {
 
     type Rest = Tally;
 
-    const MOST: u32 = 32;
+    const MOST: u32 = MOST_WORKERS;
 
-    ghost MOST = { 32 };
+    ghost MOST = { MOST_WORKERS };
 
     ghost meets = { λ number square. square ≡ number * number };
 
@@ -81,8 +83,8 @@ impl InPieces for Tally {
     }
 
     fn begin(self, _alloc: Global, ops: Vec<u32>) -> Result<(Tally, Vec<u32>), AllocError>
-        requires few { length ops.items ≤ 32 }
-        ensures most { IfOk result (λ p. (length p.1.items ≤ 32) × (length p.1.items ≤ 56)) }
+        requires few { length ops.items ≤ MOST_WORKERS }
+        ensures most { IfOk result (λ p. (length p.1.items ≤ MOST_WORKERS) × (length p.1.items ≤ PLACES)) }
         ensures remembers { IfOk result (λ p. (p.0.sum ≡ after_all tally self.sum ops.items) × (p.1.items ≡ ops.items)) }
         ensures starved { IfOk result (λ p. AllByRecursion (λ input. ⊥ → ⊤) p.1.items) }
         ensures failed { OnErr result ⊤ }
@@ -113,7 +115,7 @@ impl<'a> Helper<Tally> for PieceHelper<'a, Tally> {
         structure: Tally,
         ops: Vec<u32>,
     ) -> Result<(Tally, Vec<u64>), AllocError>
-        requires few { length ops.items ≤ 32 }
+        requires few { length ops.items ≤ MOST_WORKERS }
         ensures served { IfOk result (λ p. IsServedInSomeOrder tally structure.sum ops.items p.1.items p.0.sum) }
         ensures failed { OnErr result ⊤ }
     {

@@ -10,6 +10,7 @@ use crate::shop::first_batch;
 use batched_pq::Queue;
 use batched_stack::Stack;
 use batched_tree::TreeSet;
+use limits::MOST_WORKERS;
 use seq_objects::{Batched, Call, Op, Reply, serve_batch, spin};
 use std::alloc::{AllocError, Global};
 use std::test::Fail;
@@ -35,7 +36,7 @@ fn drawn(one: Op, number: u32) -> Op {
 
 /// The operations of a batch, by numbers that look random.
 fn operations(alloc: Global, one: Op, batch: u32) -> Result<Vec<Op>, AllocError> {
-    let mut ops = Vec::with_capacity(alloc, 32)?;
+    let mut ops = Vec::with_capacity(alloc, MOST_WORKERS as usize)?;
     for call in 0..32u32 {
         ops.push(drawn(one, spin(batch % BATCHES * 32 + call + 20)))?;
     }
@@ -62,7 +63,7 @@ fn served<T: Batched>(alloc: Global, structure: T, one: Op) -> Result<Vec<(Op, R
     let mut served = Vec::new(alloc);
     for batch in 0..BATCHES {
         let ops = operations(alloc, one, batch)?;
-        if ops.is_empty() || ops.len() > 32 {
+        if ops.is_empty() || ops.len() > MOST_WORKERS as usize {
             return Ok(served);
         }
         let calls = calls_of(alloc, &ops)?;
@@ -91,7 +92,7 @@ fn are_as_by_one_thread(
 /// Whether 32 additions of one batch, which a shop serves, have the replies that one thread gives them.
 fn are_additions_as_by_one_thread(alloc: Global) -> Result<bool, AllocError> {
     let ops = operations(alloc, Op::CounterAdd(0, 0), 0)?;
-    if ops.is_empty() || ops.len() > 32 {
+    if ops.is_empty() || ops.len() > MOST_WORKERS as usize {
         return Ok(false);
     }
     let mut served = Vec::new(alloc);

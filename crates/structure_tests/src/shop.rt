@@ -3,9 +3,11 @@ ghost use Rattle.std.specs.Prelude.{◌<◌, ◌≤◌, length, IfOk};
 ghost use Rattle.seq_objects.specs.Pieces.{AllMeet};
 ghost use Rattle.launch_batch.specs.Pieces.{Meets};
 ghost use Rattle.structure_tests.specs.Shops.{AreFrom};
+ghost use Rattle.limits.specs.declared.TheConstants.{MOST_WORKERS};
 
 use batch_history::Batch;
 use launch_batch::{PieceIn, PieceOut, Shop, run_piece};
+use limits::MOST_WORKERS;
 use seq_objects::{Call, Op, Reply};
 use std::alloc::{AllocError, Global};
 use std::test::Fail;
@@ -13,7 +15,7 @@ use test_rows::all_hold;
 
 /// The calls of workers 0, 1, .. at the leaves 0, 1, ...
 fn calls_from(alloc: Global, ops: &[Op]) -> Result<Vec<Call>, AllocError>
-    requires { length ops.now ≤ 32 }
+    requires { length ops.now ≤ MOST_WORKERS }
     ensures { IfOk result (λ v. AreFrom 0 (length ops.now) v.items) }
 {
     let mut calls = Vec::with_capacity(alloc, ops.len())?;
@@ -73,7 +75,7 @@ fn run_backwards(alloc: Global, pieces: Vec<PieceIn>) -> Result<Vec<PieceOut>, A
 /// then.
 pub(crate) fn first_batch(alloc: Global, ops: &[Op]) -> Result<(Batch, Vec<u32>, usize), AllocError>
     requires some { 0 < length ops.now }
-    requires few { length ops.now ≤ 32 }
+    requires few { length ops.now ≤ MOST_WORKERS }
 {
     let shop = Shop::new(alloc)?;
     let calls = calls_from(alloc, ops)?;
@@ -319,7 +321,7 @@ const BACKWARDS: &[Row] = &[
 fn first_wrong(alloc: Global, rows: &[Row]) -> Result<Option<usize>, AllocError> {
     for (place, row) in rows.iter().enumerate() {
         let (ops, places, entries) = *row;
-        if ops.is_empty() || ops.len() > 32 {
+        if ops.is_empty() || ops.len() > MOST_WORKERS as usize {
             return Ok(Some(place));
         }
         let (batch, found, kept) = first_batch(alloc, ops)?;

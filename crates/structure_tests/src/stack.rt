@@ -2,6 +2,7 @@
 
 use crate::batch::{Row, are_of, calls_of, first_wrong};
 use batched_stack::Stack;
+use limits::MOST_WORKERS;
 use seq_objects::{Batched, Op, Reply, serve_batch};
 use std::alloc::{AllocError, Global};
 use std::test::Fail;
@@ -57,7 +58,7 @@ fn pops_of_an_empty_stack_are_one_piece(rt: HostRuntime) -> Result<(), Fail> {
 fn after(alloc: Global, stack: Stack, batches: u32, ops: &[Op]) -> Result<Stack, AllocError> {
     let mut stack = stack;
     for _ in 0..batches {
-        if ops.is_empty() || ops.len() > 32 {
+        if ops.is_empty() || ops.len() > MOST_WORKERS as usize {
             return Ok(stack);
         }
         let calls = calls_of(alloc, ops)?;

@@ -1,18 +1,18 @@
 -- Lawful reports are raw: their numbers fit, and their operations are on objects of the job.
-use Rattle.std.proofs.Common.{◌≡◌, ◌≢◌, ℕ, zero, suc, ◌+◌, ◌*◌, ◌<◌, ◌≤◌, ◌^◌, inl, inr, List, [], ◌∷◌, length, get_or, map, Some, refl, sym, ap, subst, arith}
+use Rattle.std.proofs.Common.{◌≡◌, ◌≢◌, ℕ, zero, suc, ◌+◌, ◌*◌, ◌%◌, ◌<◌, ◌≤◌, ◌^◌, inl, inr, List, [], ◌∷◌, length, get_or, map, Some, refl, sym, ap, subst, arith}
 use Rattle.std.specs.Prelude.{slice_get, Contains}
 use Rattle.std.specs.Option.{ForSome}
 use Rattle.std.specs.List.{AllByRecursion, range_with_len}
 use Rattle.std.proofs.lemmas.List.Elements.{recursion_from_All}
 use Rattle.std.proofs.lemmas.Option.{slice_get-get_or}
-use Rattle.seq_objects.specs.Batches.{kind_of}
-use Rattle.seq_objects.specs.Objects.{argument_of, number_of, value_of}
+use Rattle.seq_objects.specs.Parts.{verb_of, kind_of, number_of, argument_of}
+use Rattle.seq_objects.specs.Objects.{value_of}
 use Rattle.seq_objects.specs.Spin.{spin_of}
 use Rattle.seq_objects.specs.declared.act.Act.{Act}
 use Rattle.seq_objects.specs.declared.act.Act.TheVariants.{Work, Call}
 use Rattle.seq_objects.specs.declared.op.Op.{Op}
-use Rattle.seq_objects.specs.declared.op.Op.TheVariants.{CounterAdd, Push, Pop, TreeInsert, TreeRemove, TreeFind, TreeNext, PqInsert, PqTake}
 use Rattle.seq_objects.proofs.Elements.{each_so, each_both, each_at}
+use Rattle.seq_objects.proofs.Parts.{number_given, kind_given}
 use Rattle.sp_order.specs.Precedence.{leaf_count}
 use Rattle.sp_order.specs.Jobs.{JobValue}
 use Rattle.sp_order.specs.Sources.{with_value}
@@ -63,15 +63,9 @@ abbrev AreOfOneObject : Op → Op → Type 0
 AreOfOneObject op other = (number_of op ≡ number_of other) × (kind_of op ≡ kind_of other)
 
 keeps_object : (op : Op) (value : ℕ) → AreOfOneObject (with_value op value) op
-keeps_object (CounterAdd number addend) value = (refl, refl)
-keeps_object (Push number item) value = (refl, refl)
-keeps_object (Pop number) value = (refl, refl)
-keeps_object (TreeInsert number key) value = (refl, refl)
-keeps_object (TreeRemove number key) value = (refl, refl)
-keeps_object (TreeFind number key) value = (refl, refl)
-keeps_object (TreeNext number key) value = (refl, refl)
-keeps_object (PqInsert number item) value = (refl, refl)
-keeps_object (PqTake number) value = (refl, refl)
+keeps_object op value =
+    let argument = value % 2 ^ 32 in
+    (number_given (verb_of op) (number_of op) argument, kind_given (verb_of op) (number_of op) argument)
 
 given_object : (op given : Op) → IsGiven op given → AreOfOneObject op given
 given_object op given (inl same) = (ap number_of same, ap kind_of same)

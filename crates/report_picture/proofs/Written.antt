@@ -13,7 +13,7 @@ use Rattle.batch_history.specs.declared.report.Report.{Report}
 use Rattle.report_picture.specs.Markup.{Part, Say, Number, Attribute, Markup, Nothing, Words, Element, escaped, key_name, tag_name, parts_onto, attributes_onto, markup_onto, text_of, each}
 use Rattle.report_picture.specs.Boxes.{lane_top, span_of, across, batch_colour, box_for, box_of, Bracket, brackets_of}
 use Rattle.report_picture.specs.Drawing.{draw_box, draw_line, draw_words, draw_lane, draw_tick, draw_ticks, draw_rect, call_title, draw_calls, draw_number, draw_bracket, draw_legend}
-use Rattle.report_picture.specs.Code.Texts.{rect_front, ticks_text, work_text, called_text, box_text, words_front, light_end, lane_text, tick_text, call_front, served_text, call_text, calls_text, number_text, line_text, under_text, bracket_line, bracket_text, legend_text, lanes_text, marks_text, boxes_text, group_text, strip_name, brackets_text, sheet_start, sheet_style, sheet_top, sheet_front, caption_text, drawing_text}
+use Rattle.report_picture.specs.Code.Texts.{rect_front, ticks_text, work_text, called_text, box_text, words_front, light_end, lane_text, tick_text, call_front, served_text, call_text, calls_text, number_text, line_text, under_text, bracket_line, bracket_text, legend_text, lanes_text, marks_text, boxes_text, group_text, strip_name, brackets_text, sheet_top, sheet_front, caption_text, drawing_text}
 use Rattle.report_picture.specs.Picture.{sheet, caption, draw_boxes, box_drawing}
 
 -- what is drawn of each of several things is one text behind another
@@ -82,7 +82,7 @@ unfolding rect_front
 rect_behind left top width height colour rest = simp append_assoc refl
 
 top_behind : (width height : ℕ) (rest : List ℕ) → sheet_top width height ++ rest
-    ≡ sheet_start ++ (decimal width ++ (codes "\" height=\"" ++ (decimal height ++ (codes "\" viewBox=\"0 0 " ++ (decimal width ++ (codes " " ++ (decimal height ++ (sheet_style ++ rest))))))))
+    ≡ codes "<svg xmlns=\"http://www.w3.org/2000/svg\" version=\"1.1\" width=\"" ++ (decimal width ++ (codes "\" height=\"" ++ (decimal height ++ (codes "\" viewBox=\"0 0 " ++ (decimal width ++ (codes " " ++ (decimal height ++ (codes "\" fill=\"#1b1f24\" font-family=\"sans-serif\" font-size=\"13\">" ++ rest))))))))
 unfolding sheet_top
 top_behind width height rest = simp append_assoc refl
 
@@ -139,7 +139,7 @@ under_drawn foot left right batch rest =
     ∙ sym (append_assoc (line_text left (foot + 67) right) (if nat_le 32 (right - left) then number_text left (foot + 89) batch else []) rest))
 
 pub sheet_is : (width height : ℕ) (inside : Markup) → markup_onto (sheet width height inside) [] ≡ sheet_front width height ++ markup_onto inside (codes "</svg>\n")
-unfolding sheet_start sheet_style sheet_top sheet_front
+unfolding sheet_top sheet_front
 sheet_is width height inside =
     let end = markup_onto inside (codes "</svg>\n") in
     sym (append_assoc (sheet_top width height) (rect_front 0 0 width height (codes "#ffffff") ++ codes "</rect>\n") end

@@ -1,11 +1,11 @@
 //! What each worker does in each column of ticks.
 ghost use Rattle.std.specs.Prelude.{◌≡◌, ◌++◌, ◌+◌, ◌*◌, ◌-◌, ◌≤◌, ◌<◌, OnOk};
 ghost use Rattle.report_picture.specs.Columns.{column_left, height_in};
-ghost use Rattle.report_picture.specs.Code.Texts.{plain_text, title_text, parts_text, share_text, shares_text, edges_text, key_front, keys_text};
+ghost use Rattle.report_picture.specs.Code.Texts.{title_text, parts_text, share_text, shares_text, edges_text, key_front, keys_text};
 
 use crate::bytes::{push_number, push_text};
 use crate::frame::push_mark;
-use crate::shapes::{product, push_rect, push_words};
+use crate::shapes::{product, push_plain, push_words};
 use report_shares::Share;
 use std::alloc::AllocError;
 
@@ -23,22 +23,6 @@ fn height_in(room: u64, width: u32, ticks: u64) -> u64
     ensures within { result ≤ room }
 {
     room.min(28 * ticks.min(width as u64) / width as u64)
-}
-
-/// Appends a rectangle without a title.
-#[tactic(auto, unfolding(crate::specs::Code::Texts::plain_text))]
-fn push_plain(
-    text: &mut Vec<u8>,
-    left: u64,
-    top: u64,
-    width: u64,
-    height: u64,
-    colour: &[u8],
-) -> Result<(), AllocError>
-    ensures { OnOk result (text.new.items ≡ text.old.items ++ plain_text left top width height colour.now) }
-{
-    push_rect(text, left, top, width, height, colour)?;
-    push_text(text, b"</rect>\n")
 }
 
 /// How many ticks of its column a worker does nothing in.

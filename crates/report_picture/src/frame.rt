@@ -1,49 +1,34 @@
 //! What stands around the boxes and the brackets.
 ghost use Rattle.std.specs.Prelude.{◌≡◌, ◌++◌, ◌+◌, ◌*◌, ◌/◌, ◌≤◌, ◌<◌, OnOk};
-ghost use Rattle.report_picture.specs.Code.Texts.{light_end, lane_text, lanes_text, tick_text, mark_text, marks_text, strip_name, legend_text, sheet_start, sheet_style, sheet_top, sheet_front, caption_text};
+ghost use Rattle.report_picture.specs.Code.Texts.{light_end, lane_text, lanes_text, tick_text, mark_text, marks_text, strip_name, legend_text, sheet_top, sheet_front, caption_text};
 
 use crate::bytes::{push_number, push_text};
-use crate::shapes::{across, push_rect, push_words};
+use crate::shapes::{across, push_plain, push_words};
 use std::alloc::AllocError;
 
-/// Appends the start of the document.
-#[tactic(auto, unfolding(crate::specs::Code::Texts::sheet_start))]
-fn push_start(text: &mut Vec<u8>) -> Result<(), AllocError>
-    ensures { OnOk result (text.new.items ≡ text.old.items ++ sheet_start) }
-{
-    let start = b"<svg xmlns=\"http://www.w3.org/2000/svg\" version=\"1.1\" width=\"";
-    text.extend_from_slice(start)
-}
-
-/// Appends the colour and the fonts of the document's words.
-#[tactic(auto, unfolding(crate::specs::Code::Texts::sheet_style))]
-fn push_style(text: &mut Vec<u8>) -> Result<(), AllocError>
-    ensures { OnOk result (text.new.items ≡ text.old.items ++ sheet_style) }
-{
-    text.extend_from_slice(b"\" fill=\"#1b1f24\" font-family=\"sans-serif\" font-size=\"13\">")
-}
-
-/// Appends the sizes of the document, between its start and its style.
+/// Appends the start of the document, with its sizes, and the colour and the fonts of its words.
 #[tactic(auto, unfolding(crate::specs::Code::Texts::sheet_top))]
 fn push_top(text: &mut Vec<u8>, width: u64, height: u64) -> Result<(), AllocError>
     ensures { OnOk result (text.new.items ≡ text.old.items ++ sheet_top width height) }
 {
-    push_start(text)?;
-    push_number(text, b"", width)?;
+    let start = b"<svg xmlns=\"http://www.w3.org/2000/svg\" version=\"1.1\" width=\"";
+    push_number(text, start, width)?;
     push_number(text, b"\" height=\"", height)?;
     push_number(text, b"\" viewBox=\"0 0 ", width)?;
     push_number(text, b" ", height)?;
-    push_style(text)
+    push_text(
+        text,
+        b"\" fill=\"#1b1f24\" font-family=\"sans-serif\" font-size=\"13\">",
+    )
 }
 
 /// Appends the front of the document, with its ground.
-#[tactic(auto, unfolding(crate::specs::Code::Texts::sheet_front))]
+#[tactic(auto, unfolding(crate::specs::Code::Texts::plain_text, crate::specs::Code::Texts::sheet_front))]
 pub(crate) fn push_sheet(text: &mut Vec<u8>, width: u64, height: u64) -> Result<(), AllocError>
     ensures { OnOk result (text.new.items ≡ text.old.items ++ sheet_front width height) }
 {
     push_top(text, width, height)?;
-    push_rect(text, 0, 0, width, height, b"#ffffff")?;
-    text.extend_from_slice(b"</rect>\n")
+    push_plain(text, 0, 0, width, height, b"#ffffff")
 }
 
 /// Appends the caption.
@@ -168,19 +153,17 @@ pub(crate) fn push_strip_name(text: &mut Vec<u8>, foot: u32) -> Result<(), Alloc
 }
 
 /// Appends what the two kinds of boxes are.
-#[tactic(auto, unfolding(crate::specs::Code::Texts::legend_text))]
+#[tactic(auto, unfolding(crate::specs::Code::Texts::plain_text, crate::specs::Code::Texts::legend_text))]
 pub(crate) fn push_legend(text: &mut Vec<u8>, foot: u32) -> Result<(), AllocError>
     requires { foot ≤ 2000 }
     ensures { OnOk result (text.new.items ≡ text.old.items ++ legend_text foot) }
 {
     let base = (foot + 123) as u64;
     text.extend_from_slice(b"<g>")?;
-    push_rect(text, 96, (foot + 113) as u64, 24, 10, b"#6e7781")?;
-    text.extend_from_slice(b"</rect>\n")?;
+    push_plain(text, 96, (foot + 113) as u64, 24, 10, b"#6e7781")?;
     push_words(text, 128, base)?;
     text.extend_from_slice(b"work</text>\n")?;
-    push_rect(text, 192, (foot + 108) as u64, 24, 20, b"#0072b2")?;
-    text.extend_from_slice(b"</rect>\n")?;
+    push_plain(text, 192, (foot + 108) as u64, 24, 20, b"#0072b2")?;
     push_words(text, 224, base)?;
     push_text(text, b"a call, in the colour of its batch</text>\n</g>\n")
 }

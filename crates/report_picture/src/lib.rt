@@ -4,8 +4,8 @@
 //! end, and the book of batches below, each with its calls under a bracket. Past 2,000 leaves or calls columns of ticks
 //! take the place of the boxes. `laws` states what the boxes and brackets mean, that the document is well-formed, and
 //! that a text has one picture. The crate builds on `report_shares`, which counts what columns show, on `report_reader`
-//! for raw reports, on `batch_history`, `seq_objects`, `sp_order` and `job_names` for what they hold, and on `itoa` for
-//! decimal numbers.
+//! for raw reports, on `batch_history`, `seq_objects`, `sp_order` and `job_names` for what they hold, on `call_words`
+//! for the words of operations, and on `itoa` for decimal numbers.
 #![tactic(auto)]
 
 mod batches;

@@ -1,7 +1,7 @@
 //! The elements of which the picture is made, and where they stand.
 ghost use Rattle.std.specs.Prelude.{◌≡◌, ◌++◌, ◌*◌, OnOk};
 ghost use Rattle.report_picture.specs.Boxes.{across, batch_colour};
-ghost use Rattle.report_picture.specs.Code.Texts.{rect_front, words_front};
+ghost use Rattle.report_picture.specs.Code.Texts.{plain_text, rect_front, words_front};
 
 use crate::bytes::{push_escaped, push_number};
 use std::alloc::AllocError;
@@ -52,6 +52,22 @@ pub(crate) fn push_rect(
     text.extend_from_slice(b"\" fill=\"")?;
     push_escaped(text, colour)?;
     text.extend_from_slice(b"\">")
+}
+
+/// Appends a rectangle without a title.
+#[tactic(auto, unfolding(crate::specs::Code::Texts::plain_text))]
+pub(crate) fn push_plain(
+    text: &mut Vec<u8>,
+    left: u64,
+    top: u64,
+    width: u64,
+    height: u64,
+    colour: &[u8],
+) -> Result<(), AllocError>
+    ensures { OnOk result (text.new.items ≡ text.old.items ++ plain_text left top width height colour.now) }
+{
+    push_rect(text, left, top, width, height, colour)?;
+    text.extend_from_slice(b"</rect>\n")
 }
 
 /// Appends the front of words with their left end at this place.

@@ -1,10 +1,10 @@
 //! The batches by their numbers of calls, as bars.
-ghost use Rattle.std.specs.Prelude.{◌≡◌, ◌++◌, ◌+◌, ◌*◌, ◌<◌, ◌≤◌, ◌^◌, length, OnOk, codes};
+ghost use Rattle.std.specs.Prelude.{◌≡◌, ◌++◌, ◌+◌, ◌*◌, ◌<◌, ◌≤◌, ◌^◌, length, OnOk};
 ghost use Rattle.report_picture.specs.Boxes.{sized, bar_width};
 ghost use Rattle.report_picture.specs.Code.Texts.{bar_end, bar_text, bars_text, note_text};
 
 use crate::bytes::{push_number, push_text};
-use crate::shapes::{push_rect, push_words};
+use crate::shapes::{push_plain, push_words};
 use batch_history::Batch;
 use std::alloc::AllocError;
 
@@ -43,7 +43,7 @@ fn push_bar_end(text: &mut Vec<u8>, left: u64, base: u64, count: usize) -> Resul
 }
 
 /// Appends a bar, where the bars begin at `top`.
-#[tactic(auto, unfolding(crate::specs::Code::Texts::bar_text))]
+#[tactic(auto, unfolding(crate::specs::Code::Texts::plain_text, crate::specs::Code::Texts::bar_text))]
 fn push_bar(
     text: &mut Vec<u8>,
     top: u32,
@@ -63,8 +63,7 @@ fn push_bar(
     push_words(text, 16, base)?;
     push_number(text, b"", mark + 1)?;
     text.extend_from_slice(b"</text>\n")?;
-    push_rect(text, 96, (top + 20 * mark) as u64, width, 14, b"#6e7781")?;
-    text.extend_from_slice(b"</rect>\n")?;
+    push_plain(text, 96, (top + 20 * mark) as u64, width, 14, b"#6e7781")?;
     push_bar_end(text, 104 + width, base, count)
 }
 
@@ -83,21 +82,13 @@ pub(crate) fn push_bars(text: &mut Vec<u8>, top: u32, book: &[Batch]) -> Result<
 }
 
 /// Appends the words over the bars.
-fn push_note_words(text: &mut Vec<u8>) -> Result<(), AllocError>
-    ensures { OnOk result (text.new.items ≡ text.old.items
-        ++ codes "batches by their number of calls (past 2000 leaves no box is drawn for a leaf)</text>\n") }
-{
-    let words =
-        b"batches by their number of calls (past 2000 leaves no box is drawn for a leaf)</text>\n";
-    text.extend_from_slice(words)
-}
-
-/// Appends the words over the bars, at their place.
 #[tactic(auto, unfolding(crate::specs::Code::Texts::note_text))]
 pub(crate) fn push_note(text: &mut Vec<u8>, foot: u32) -> Result<(), AllocError>
     requires { foot ≤ 2000 }
     ensures { OnOk result (text.new.items ≡ text.old.items ++ note_text foot) }
 {
     push_words(text, 16, (foot + 84) as u64)?;
-    push_note_words(text)
+    let words =
+        b"batches by their number of calls (past 2000 leaves no box is drawn for a leaf)</text>\n";
+    text.extend_from_slice(words)
 }

@@ -1,30 +1,13 @@
 //! The words of operations and replies, as reports write them.
-ghost use Rattle.std.specs.Prelude.{◌≡◌, ◌++◌, ◌≤◌, length, map, IfOk, OnOk, string_bytes};
+ghost use Rattle.std.specs.Prelude.{◌≡◌, ◌≤◌, length, map, IfOk, string_bytes};
 ghost use Rattle.job_names.specs.Names.{AreSpelled, spelling};
-ghost use Rattle.seq_objects.specs.Objects.{number_of};
-ghost use Rattle.seq_objects.specs.Words.{op_words, argument_words, reply_words};
+ghost use Rattle.seq_objects.specs.Parts.{number_of};
+ghost use Rattle.seq_objects.specs.Words.{op_words, reply_words};
 
-use itoa::Buffer;
+use call_words::push_op;
 use job_names::Name;
 use seq_objects::{Op, Reply};
-use sp_order::push_call;
 use std::alloc::{AllocError, Global};
-
-/// Appends the argument of an operation, if it takes one.
-fn push_argument(words: &mut String, op: Op) -> Result<(), AllocError>
-    ensures { OnOk result (string_bytes words.new ≡ string_bytes words.old ++ argument_words op) }
-{
-    match op {
-        Op::CounterAdd(_, argument)
-        | Op::Push(_, argument)
-        | Op::TreeInsert(_, argument)
-        | Op::TreeRemove(_, argument)
-        | Op::TreeFind(_, argument)
-        | Op::TreeNext(_, argument)
-        | Op::PqInsert(_, argument) => words.push_str(Buffer::new().format(argument)),
-        Op::Pop(_) | Op::PqTake(_) => Ok(()),
-    }
-}
 
 /// The words of an operation, with the name of its object and its argument.
 pub(crate) fn op_words(alloc: Global, names: &[Name], op: Op) -> Result<String, AllocError>
@@ -33,8 +16,7 @@ pub(crate) fn op_words(alloc: Global, names: &[Name], op: Op) -> Result<String, 
     ensures { IfOk result (λ words. string_bytes words ≡ op_words (map spelling names.now) op) }
 {
     let mut words = String::new(alloc);
-    push_call(&mut words, names, op)?;
-    push_argument(&mut words, op)?;
+    push_op(&mut words, names, op)?;
     Ok(words)
 }
 

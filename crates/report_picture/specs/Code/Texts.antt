@@ -115,18 +115,10 @@ legend_text foot =
     ++ (codes "</rect>\n" ++ (words_front 224 (foot + 123)
     ++ codes "a call, in the colour of its batch</text>\n</g>\n")))))))
 
-unfoldable pub sheet_start : List ℕ
-sheet_start =
-    codes "<svg xmlns=\"http://www.w3.org/2000/svg\" version=\"1.1\" width=\""
-
-unfoldable pub sheet_style : List ℕ
-sheet_style =
-    codes "\" fill=\"#1b1f24\" font-family=\"sans-serif\" font-size=\"13\">"
-
 unfoldable pub sheet_top : ℕ → ℕ → List ℕ
 sheet_top width height =
-    sheet_start ++ (decimal width ++ (codes "\" height=\"" ++ (decimal height ++ (codes "\" viewBox=\"0 0 "
-    ++ (decimal width ++ (codes " " ++ (decimal height ++ sheet_style)))))))
+    codes "<svg xmlns=\"http://www.w3.org/2000/svg\" version=\"1.1\" width=\"" ++ (decimal width ++ (codes "\" height=\"" ++ (decimal height ++ (codes "\" viewBox=\"0 0 "
+    ++ (decimal width ++ (codes " " ++ (decimal height ++ codes "\" fill=\"#1b1f24\" font-family=\"sans-serif\" font-size=\"13\">")))))))
 
 unfoldable pub sheet_front : ℕ → ℕ → List ℕ
 sheet_front width height =

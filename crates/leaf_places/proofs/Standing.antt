@@ -7,13 +7,19 @@ use Rattle.job_syntax.specs.declared.lexer.word.Word.{Word}
 use Rattle.job_syntax.specs.declared.lexer.word.Word.TheVariants.{Open, Close}
 use Rattle.job_syntax.specs.Blocks.{word_number}
 use Rattle.job_syntax.specs.Grammar.{Items, nothing, leaf_then, block_then, BlockKind, seq_block, par_block, for_loop, pfor_loop, Leaf, leaf_words, kind_words, items_words}
-use Rattle.job_lang.specs.Meaning.{each_copy}
-use Rattle.job_lang.specs.Places.{PlacedLeaf, placed_in, placed_leaves}
+use Rattle.job_lang.specs.Meaning.{each_copy, in_block}
+use Rattle.job_lang.specs.Places.{PlacedLeaf, with_copy, placed_in, placed_leaves}
 use Rattle.leaf_places.specs.Places.{StandsIn}
 
 all_copies : {X : Type 0} (P : X → Type 0) (n : ℕ) (f : ℕ → List X) → ((k : ℕ) → AllByRecursion P (f k)) → AllByRecursion P (each_copy n f)
 all_copies P zero f each = tt
 all_copies P (suc n) f each = each_append P (each_copy n f) (f n) (all_copies P n f each) (each n)
+
+all_in_block : {X : Type 0} (P : X → Type 0) (kind : BlockKind) (f : ℕ → List X) → ((k : ℕ) → AllByRecursion P (f k)) → AllByRecursion P (in_block kind 0 f)
+all_in_block P seq_block f each = each 0
+all_in_block P par_block f each = each 0
+all_in_block P (for_loop n) f each = all_copies P (word_number n) f each
+all_in_block P (pfor_loop n) f each = all_copies P (word_number n) f each
 
 module _ (words : List Word) where
   here : (front : List Word) (leaf : Leaf) (more behind : List Word) (before : ℕ) → front ++ ((leaf_words leaf ++ more) ++ behind) ≡ words → length front ≡ before
@@ -52,34 +58,14 @@ module _ (words : List Word) where
     standing more (front ++ leaf_words leaf) behind (before + length (leaf_words leaf)) copies
         (next front (leaf_words leaf) (items_words more) behind are) (further front (leaf_words leaf) before far),
   )
-  standing (block_then seq_block body more) front behind before copies are far =
-      let head = kind_words seq_block ++ Open ∷ [] in
-      let whole = items_words (block_then seq_block body nothing) in
-      each_append (StandsIn words) (placed_in (before + length head) copies body) (placed_in (before + length whole) copies more)
-      (standing body (front ++ head) (Close ∷ (items_words more ++ behind)) (before + length head) copies (opened front seq_block body more behind are) (further front head before far))
-      (standing more (front ++ whole) behind (before + length whole) copies (closed front seq_block body more behind are) (further front whole before far))
-  standing (block_then par_block body more) front behind before copies are far =
-      let head = kind_words par_block ++ Open ∷ [] in
-      let whole = items_words (block_then par_block body nothing) in
-      each_append (StandsIn words) (placed_in (before + length head) copies body) (placed_in (before + length whole) copies more)
-      (standing body (front ++ head) (Close ∷ (items_words more ++ behind)) (before + length head) copies (opened front par_block body more behind are) (further front head before far))
-      (standing more (front ++ whole) behind (before + length whole) copies (closed front par_block body more behind are) (further front whole before far))
-  standing (block_then (for_loop n) body more) front behind before copies are far =
-      let head = kind_words (for_loop n) ++ Open ∷ [] in
-      let whole = items_words (block_then (for_loop n) body nothing) in
-      let copy : ℕ → List PlacedLeaf = λ k. placed_in (before + length head) (copies ++ k ∷ []) body in
-      each_append (StandsIn words) (each_copy (word_number n) copy) (placed_in (before + length whole) copies more)
-      (all_copies (StandsIn words) (word_number n) copy
-      (λ k. standing body (front ++ head) (Close ∷ (items_words more ++ behind)) (before + length head) (copies ++ k ∷ []) (opened front (for_loop n) body more behind are) (further front head before far)))
-      (standing more (front ++ whole) behind (before + length whole) copies (closed front (for_loop n) body more behind are) (further front whole before far))
-  standing (block_then (pfor_loop n) body more) front behind before copies are far =
-      let head = kind_words (pfor_loop n) ++ Open ∷ [] in
-      let whole = items_words (block_then (pfor_loop n) body nothing) in
-      let copy : ℕ → List PlacedLeaf = λ k. placed_in (before + length head) (copies ++ k ∷ []) body in
-      each_append (StandsIn words) (each_copy (word_number n) copy) (placed_in (before + length whole) copies more)
-      (all_copies (StandsIn words) (word_number n) copy
-      (λ k. standing body (front ++ head) (Close ∷ (items_words more ++ behind)) (before + length head) (copies ++ k ∷ []) (opened front (pfor_loop n) body more behind are) (further front head before far)))
-      (standing more (front ++ whole) behind (before + length whole) copies (closed front (pfor_loop n) body more behind are) (further front whole before far))
+  standing (block_then kind body more) front behind before copies are far =
+      let head = kind_words kind ++ Open ∷ [] in
+      let whole = items_words (block_then kind body nothing) in
+      let copy : ℕ → List PlacedLeaf = λ k. placed_in (before + length head) (with_copy kind copies k) body in
+      each_append (StandsIn words) (in_block kind 0 copy) (placed_in (before + length whole) copies more)
+      (all_in_block (StandsIn words) kind copy
+      (λ k. standing body (front ++ head) (Close ∷ (items_words more ++ behind)) (before + length head) (with_copy kind copies k) (opened front kind body more behind are) (further front head before far)))
+      (standing more (front ++ whole) behind (before + length whole) copies (closed front kind body more behind are) (further front whole before far))
 
 -- the leaves of items stand among the words that the items write
 pub all_stand : (words : List Word) (items : Items) → items_words items ≡ words → AllByRecursion (StandsIn words) (placed_leaves items)

@@ -1,7 +1,7 @@
 //! Where the leaves of a job stand in its text, and the rows that say it.
 //!
 //! `places_in` gives for each leaf of an accepted text the line of its item and the copies of the loops around it:
-//! `walk` goes over the items once, by the numbers of words that `word_count` gives. `rows_of` writes a row for each
+//! `walk` goes over the items once, by the numbers of words that `job_lang` gives. `rows_of` writes a row for each
 //! leaf, with its place, what it does, and the place of its source. `laws` says that a text has one list of rows.
 //!
 //! In `specs/` the rules stand at the top, and what only the code and its proofs cite in `Code/`. The crate stands on
@@ -14,7 +14,6 @@ mod place;
 mod reader;
 mod rows;
 mod walk;
-mod word_count;
 
 pub use place::LeafPlace;
 pub use reader::places_in;

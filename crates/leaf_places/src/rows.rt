@@ -1,16 +1,16 @@
 //! The rows of a job's leaves: where each stands in the text, and what it does.
 ghost use Rattle.std.specs.Prelude.{◌≡◌, ◌<◌, ◌≤◌, ◌++◌, length, map, IfOk, IfSome, OnOk, string_bytes};
 ghost use Rattle.job_names.specs.Names.{AreSpelled, spelling};
-ghost use Rattle.seq_objects.specs.Words.{argument_words};
 ghost use Rattle.sp_order.specs.Objects.{number_in};
 ghost use Rattle.job_lang.specs.Language.{IsJobOf};
 ghost use Rattle.leaf_places.specs.Rows.{leaf_words, copies_words, act_words, row_text, rows_text, AreRowsOf};
 
+use call_words::{push_call, push_op};
 use crate::place::LeafPlace;
 use crate::reader::places_in;
 use job_names::Name;
-use seq_objects::{Act, Op};
-use sp_order::{Job, push_call};
+use seq_objects::Act;
+use sp_order::Job;
 use std::alloc::{AllocError, Global};
 use std::fmt::Write;
 
@@ -34,22 +34,6 @@ fn push_copies(text: &mut String, copies: &[u32]) -> Result<(), AllocError>
     Ok(())
 }
 
-/// Appends the argument of an operation, if it takes one.
-fn push_argument(text: &mut String, op: Op) -> Result<(), AllocError>
-    ensures { OnOk result (string_bytes text.new ≡ string_bytes text.old ++ argument_words op) }
-{
-    match op {
-        Op::CounterAdd(_, argument)
-        | Op::Push(_, argument)
-        | Op::TreeInsert(_, argument)
-        | Op::TreeRemove(_, argument)
-        | Op::TreeFind(_, argument)
-        | Op::TreeNext(_, argument)
-        | Op::PqInsert(_, argument) => write!(text, "{argument}"),
-        Op::Pop(_) | Op::PqTake(_) => Ok(()),
-    }
-}
-
 /// Appends what a leaf does, with its source where it has one.
 fn push_act(
     text: &mut String,
@@ -67,10 +51,7 @@ fn push_act(
 {
     match (act, source) {
         (Act::Work(steps), _) => write!(text, "work {steps}"),
-        (Act::Call(op), None) => {
-            push_call(text, names, op)?;
-            push_argument(text, op)
-        }
+        (Act::Call(op), None) => push_op(text, names, op),
         (Act::Call(op), Some(source)) => {
             push_call(text, names, op)?;
             text.push_str("reply of ")?;

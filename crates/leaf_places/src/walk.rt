@@ -6,7 +6,7 @@ ghost use Rattle.job_lang.specs.Meaning.{each_copy};
 ghost use Rattle.leaf_places.specs.Code.Walk.{outside, in_copy, places_from};
 
 use crate::place::LeafPlace;
-use crate::word_count::item_word_count;
+use job_lang::item_word_count;
 use job_syntax::{BlockKind, Item};
 use std::alloc::{AllocError, Global};
 

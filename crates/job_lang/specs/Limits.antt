@@ -1,6 +1,7 @@
 -- The limits of a text whose tokens have no fault: it may have too many leaves, or an argument that does not fit 32
 -- bits in some copy.
 use Rattle.std.specs.Prelude.{◌≡◌, ℕ, ◌+◌, ◌-◌, ◌*◌, ◌<◌, ◌≤◌, ◌^◌, List, [], ◌∷◌, ◌++◌, filter, Bool, true, false, ◌&&◌, Option, Some, None, nat_le}
+use Rattle.limits.specs.declared.TheConstants.{MOST_LEAVES}
 use Rattle.job_syntax.specs.declared.lexer.word.Word.{Word}
 use Rattle.job_syntax.specs.declared.lexer.word.Word.TheVariants.{Copies}
 use Rattle.job_syntax.specs.declared.lexer.word.WordOnLine.{WordOnLine}
@@ -10,13 +11,13 @@ use Rattle.job_syntax.specs.Blocks.{word_number}
 use Rattle.job_syntax.specs.Arguments.{leaf_argument}
 use Rattle.job_lang.specs.Counts.{count, count_first}
 
--- The line of the first token of the first top-level item with which the leaves are more than 20,000.
+-- The line of the first token of the first top-level item with which the leaves are more than a job may have.
 pub record IsLeavesLine (tokens : List WordOnLine) (items : Items) (line : ℕ) : Type 0 where
   pub before : Items
   pub from_item : Items
   pub parts : before then from_item ≡ items
-  pub few : count before ≤ 20000
-  pub many : 20000 < count before + count_first from_item
+  pub few : count before ≤ MOST_LEAVES
+  pub many : MOST_LEAVES < count before + count_first from_item
   pub front : List WordOnLine
   pub first : WordOnLine
   pub behind : List WordOnLine

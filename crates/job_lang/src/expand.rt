@@ -1,5 +1,6 @@
 //! Expansion: the job of items, with the shapes and the acts of all copies.
 ghost use Rattle.std.specs.Prelude.{◌≡◌, ℕ, ◌+◌, ◌*◌, ◌<◌, ◌≤◌, ◌++◌, false, length, map, IfOk, OnOk};
+ghost use Rattle.limits.specs.declared.TheConstants.{MOST_LEAVES};
 ghost use Rattle.sp_order.specs.Precedence.{tree_of, seq};
 ghost use Rattle.job_lang.specs.Counts.{count};
 ghost use Rattle.job_syntax.specs.Grammar.{block_then, nothing, AreItems};
@@ -43,7 +44,7 @@ fn shapes_in(
     shapes: &mut Vec<Shape>,
 ) -> Result<(), AllocError>
     requires fits { Fits copy (items_of items.now) }
-    requires few { length leaves.old.acts.items + count (items_of items.now) ≤ 20000 }
+    requires few { length leaves.old.acts.items + count (items_of items.now) ≤ MOST_LEAVES }
     requires kept { AreKept leaves.old }
     ensures shapes { OnOk result
         (map tree_of shapes.new.items ≡ map tree_of shapes.old.items ++ shapes_in copy (items_of items.now)) }
@@ -66,7 +67,7 @@ fn shape_in(
     shapes: &mut Vec<Shape>,
 ) -> Result<(), AllocError>
     requires fits { Fits copy (item_of item.now) }
-    requires few { length leaves.old.acts.items + count (item_of item.now) ≤ 20000 }
+    requires few { length leaves.old.acts.items + count (item_of item.now) ≤ MOST_LEAVES }
     requires kept { AreKept leaves.old }
     ensures shapes { OnOk result
         (map tree_of shapes.new.items ≡ map tree_of shapes.old.items ++ shapes_in copy (item_of item.now)) }
@@ -103,7 +104,7 @@ fn block_shapes(
 ) -> Result<(), AllocError>
     requires fits { Fits copy (block_then (block_kind_of kind) (items_of inside.now) nothing) }
     requires few { length leaves.old.acts.items + count (block_then (block_kind_of kind) (items_of inside.now) nothing)
-        ≤ 20000 }
+        ≤ MOST_LEAVES }
     requires kept { AreKept leaves.old }
     ensures shapes { OnOk result
         (map tree_of shapes.new.items
@@ -134,7 +135,7 @@ fn shapes_of_copies(
     shapes: &mut Vec<Shape>,
 ) -> Result<(), AllocError>
     requires fits { (k : ℕ) → k < copies → Fits k (items_of inside.now) }
-    requires few { length leaves.old.acts.items + copies * count (items_of inside.now) ≤ 20000 }
+    requires few { length leaves.old.acts.items + copies * count (items_of inside.now) ≤ MOST_LEAVES }
     requires kept { AreKept leaves.old }
     ensures shapes { OnOk result
         (map tree_of shapes.new.items
@@ -156,7 +157,7 @@ fn shapes_of_copies(
 /// block and each copy joins its own, so that none of them needs a vector.
 #[tactic(auto, using(crate::proofs::ExpandLemmas::Leaves::job_leaves, crate::proofs::ExpandLemmas::Leaves::acts_count, crate::proofs::ExpandLemmas::Vanishing::same_shapes, crate::proofs::ExpandLemmas::Vanishing::same_acts, crate::proofs::ExpandLemmas::Vanishing::kept_fits))]
 pub(crate) fn expand(alloc: Global, mut items: Vec<Item>) -> Result<Job, AllocError>
-    requires few { count (items_of items.items) ≤ 20000 }
+    requires few { count (items_of items.items) ≤ MOST_LEAVES }
     requires fits { Fits 0 (items_of items.items) }
     requires derived { AreItems false (items_of items.items) }
     requires spelled { AreSpelled (objects_in (items_of items.items)) }

@@ -1,5 +1,6 @@
 //! The reader, stage by stage: bytes, words, items, limits, copies.
 ghost use Rattle.std.specs.Prelude.{◌≡◌, ◌≤◌, ◌⊎◌, Ok, Err, IfOk, length};
+ghost use Rattle.limits.specs.declared.TheConstants.{MOST_JOB_BYTES};
 ghost use Rattle.sp_order.specs.Jobs.{JobValue};
 ghost use Rattle.job_lang.specs.Language.{IsJobOf, IsFaultOf};
 ghost use Rattle.job_syntax.specs.declared.fault.JobFault.{JobFault};
@@ -14,7 +15,7 @@ use std::alloc::Global;
 /// Reads a text, and gives its job or its fault.
 #[tactic(auto, using(crate::proofs::ReaderLemmas::ReadingFaults::reading_fault, crate::proofs::ReaderLemmas::Spelled::objects_spelled, crate::proofs::LimitLemmas::Arguments::numbers_fit))]
 fn read(alloc: Global, text: &[u8]) -> Result<Job, JobErr>
-    requires { length text.now ≤ 1048576 }
+    requires { length text.now ≤ MOST_JOB_BYTES }
     ensures job { IfOk result (λ job. IsJobOf text.now job) }
     ensures fault { (fault : JobFault) → result ≡ Err (Bad fault) → IsFaultOf text.now fault }
 {
@@ -34,7 +35,7 @@ fn read(alloc: Global, text: &[u8]) -> Result<Job, JobErr>
 
 /// The job of a text, or its fault. Where memory runs out, and only there, the answer is `Memory`.
 pub fn read_job(alloc: Global, text: &[u8]) -> Result<Job, JobErr>
-    requires { length text.now ≤ 1048576 }
+    requires { length text.now ≤ MOST_JOB_BYTES }
     ensures job { IfOk result (λ job. IsJobOf text.now job) }
     ensures fault { (fault : JobFault) → result ≡ Err (Bad fault) → IsFaultOf text.now fault }
     ensures accepts { (job : JobValue) → IsJobOf text.now job → (result ≡ Ok job) ⊎ (result ≡ Err Memory) }

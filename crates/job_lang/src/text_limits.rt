@@ -1,5 +1,6 @@
 //! The limits of a job whose words have no fault: the number of its leaves, and the range of its arguments.
 ghost use Rattle.std.specs.Prelude.{◌≡◌, ◌<◌, ◌≤◌, IfSome, IfNone, length, slice_index_or};
+ghost use Rattle.limits.specs.declared.TheConstants.{MOST_LEAVES, MOST_JOB_BYTES};
 ghost use Rattle.job_lang.specs.Counts.{count};
 ghost use Rattle.job_syntax.specs.Faults.{words_of};
 ghost use Rattle.job_syntax.specs.Grammar.{items_words};
@@ -18,11 +19,11 @@ use crate::text_limits::word_count::item_word_count;
 use job_syntax::{Cursor, Item};
 
 /// The most leaves that a job may have.
-const MOST_LEAVES: u64 = 20_000;
+const MOST_LEAVES: u64 = limits::MOST_LEAVES as u64;
 
 /// The line of the word at this place of a text.
 fn line_at(text: &[u8], place: usize) -> u32
-    requires short { length text.now ≤ 1048576 }
+    requires short { length text.now ≤ MOST_JOB_BYTES }
     requires within { place < length (words_on_lines text.now) }
     ensures { (other : WordOnLine) → result ≡ (slice_index_or (words_on_lines text.now) place other).line }
 {
@@ -40,9 +41,9 @@ fn line_at(text: &[u8], place: usize) -> u32
 /// The words are read again only where there is one.
 pub(crate) fn leaves_line(text: &[u8], items: &[Item]) -> Option<u32>
     requires writes { items_words (items_of items.now) ≡ words_of (words_on_lines text.now) }
-    requires short { length text.now ≤ 1048576 }
+    requires short { length text.now ≤ MOST_JOB_BYTES }
     ensures some { IfSome result (λ line. IsLeavesLine (words_on_lines text.now) (items_of items.now) line) }
-    ensures none { IfNone result (count (items_of items.now) ≤ 20000) }
+    ensures none { IfNone result (count (items_of items.now) ≤ MOST_LEAVES) }
 {
     let mut leaves = 0;
     let mut place = 0;
@@ -60,7 +61,7 @@ pub(crate) fn leaves_line(text: &[u8], items: &[Item]) -> Option<u32>
 /// where there is one.
 #[tactic(auto, using(crate::proofs::LimitLemmas::ArgumentRanges::found_line))]
 pub(crate) fn argument_line(text: &[u8], items: &[Item]) -> Option<u32>
-    requires { length text.now ≤ 1048576 }
+    requires { length text.now ≤ MOST_JOB_BYTES }
     ensures { result ≡ argument_line (words_on_lines text.now) (items_of items.now) }
 {
     if !any_out_of_range(0, items) {

@@ -1,6 +1,7 @@
 //! The leaves of a job, while its copies are made.
 ghost use Rattle.std.specs.Prelude.{◌≡◌, ◌+◌, ◌<◌, ◌≤◌, [], Some, length, OnOk};
 ghost use Rattle.std.specs.Option.{option_map};
+ghost use Rattle.limits.specs.declared.TheConstants.{MOST_LEAVES};
 ghost use Rattle.job_names.specs.Code.Kept.{IsKept};
 ghost use Rattle.job_names.specs.Code.Kept as names;
 ghost use Rattle.job_names.specs.Scopes.{job, inside, closed};
@@ -96,7 +97,7 @@ impl Leaves {
     /// Adds a leaf in copy `copy`.
     pub(crate) fn add(&mut self, copy: u32, leaf: Leaf) -> Result<(), AllocError>
         requires fits { FitsLeaf copy (leaf_of leaf) }
-        requires few { length self.old.acts.items < 20000 }
+        requires few { length self.old.acts.items < MOST_LEAVES }
         requires kept { AreKept self.old }
         ensures { OnOk result (Adds copy (leaf_then (leaf_of leaf) nothing) self.old self.new) }
     {
@@ -110,7 +111,7 @@ impl Leaves {
     /// Adds a call with a name for its reply in copy `copy`.
     pub(crate) fn add_let(&mut self, copy: u32, name: Name, call: Leaf) -> Result<(), AllocError>
         requires fits { FitsLeaf copy (leaf_of call) }
-        requires few { length self.old.acts.items < 20000 }
+        requires few { length self.old.acts.items < MOST_LEAVES }
         requires kept { AreKept self.old }
         ensures { OnOk result (Adds copy (leaf_then (bound name (leaf_of call)) nothing) self.old self.new) }
     {

@@ -1,6 +1,7 @@
 //! The objects that the leaves of a job name, while its copies are made.
 ghost use Rattle.std.specs.Prelude.{◌≡◌, ◌+◌, ◌-◌, ◌<◌, ◌≤◌, ◌++◌, [], ◌∷◌, Some, length, replicate, map, IfOk, OnOk};
 ghost use Rattle.std.specs.Option.{option_map};
+ghost use Rattle.limits.specs.declared.TheConstants.{MOST_LEAVES};
 ghost use Rattle.job_names.specs.Names.{spelling};
 ghost use Rattle.job_syntax.specs.Views.{leaf_of};
 ghost use Rattle.sp_order.specs.Objects.{AreNumbered, AreUnnamed, with_numbers};
@@ -76,7 +77,7 @@ impl Objects {
 
     /// Adds the object that the leaf at this place names.
     fn add_named(&mut self, place: usize, object: Object) -> Result<(), AllocError>
-        requires place { place < 20000 }
+        requires place { place < MOST_LEAVES }
         requires few { length self.old.named.keys ≤ place }
         ensures numbers { OnOk result
             (self.new.numbers.items
@@ -91,7 +92,7 @@ impl Objects {
 
     /// Adds the object that the leaf at this place names, if it names one.
     pub(crate) fn add(&mut self, place: usize, object: Option<Object>) -> Result<(), AllocError>
-        requires place { place < 20000 }
+        requires place { place < MOST_LEAVES }
         requires few { length self.old.named.keys ≤ place }
         ensures listed { OnOk result (NamesBehind place self.old self.new (option_map object_in object ∷ [])) }
         ensures few { OnOk result (length self.new.named.keys ≤ place + 1) }

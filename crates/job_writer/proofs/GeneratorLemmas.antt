@@ -2,8 +2,8 @@ pub mod Arguments
 pub mod Assembly
 pub mod Counts
 pub mod Draws
+pub mod Each
 pub mod Filling
 pub mod Phases
 pub mod Texts
 pub mod Sources
-pub mod Unnamed

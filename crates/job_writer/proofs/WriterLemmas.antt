@@ -1,6 +1,7 @@
 pub mod Bytes
 pub mod Decimals
 pub mod Fronts
+pub mod Grown
 pub mod Items
 pub mod Jobs
 pub mod Words

@@ -7,10 +7,10 @@ use Rattle.std.specs.List.{list_any}
 use Rattle.seq_objects.specs.declared.act.Act.{Act}
 use Rattle.seq_objects.specs.declared.act.Act.TheVariants.{Work, Call}
 use Rattle.seq_objects.specs.declared.op.Op.{Op}
-use Rattle.seq_objects.specs.Words.{call_words, op_words}
+use Rattle.seq_objects.specs.Parts.{argument_of, has_argument}
+use Rattle.seq_objects.specs.Words.{call_words}
 use Rattle.sp_order.specs.Precedence.{Tree, leaf, seq, par, leaves}
 use Rattle.sp_order.specs.Jobs.{JobValue}
-use Rattle.sp_order.specs.Sources.{has_argument}
 
 -- a leaf as it is written: its number, whether some leaf has it as its source, its act, and its own source
 pub record WrittenLeaf : Type 0 where
@@ -34,6 +34,7 @@ written_from all number (act ∷ acts) (source ∷ sources) =
     record { number = number; named = is_source all number; act = act; source = source } ∷ written_from all (number + 1) acts sources
 written_from all number _ _ = []
 
+-- the leaves of a job as they are written
 abbrev pub written_leaves : JobValue → List WrittenLeaf
 written_leaves job = written_from job.sources 0 job.acts job.sources
 
@@ -41,21 +42,29 @@ written_leaves job = written_from job.sources 0 job.acts job.sources
 abbrev pub name_text : ℕ → List ℕ
 name_text number = codes "v" ++ decimal number
 
--- an operation with the name of its source as its argument, if it takes one
-abbrev pub named_words : List (List ℕ) → Op → ℕ → List ℕ
-named_words names op source = call_words names op ++ (if has_argument op then name_text source else [])
+-- an argument: the name of its source, if it has one, else its number
+abbrev pub value_text : ℕ → Option ℕ → List ℕ
+value_text number None = decimal number
+value_text number (Some source) = name_text source
 
+-- the argument of an operation, if it takes one
+abbrev pub argument_text : Op → Option ℕ → List ℕ
+argument_text op source = if has_argument op then value_text (argument_of op) source else []
+
+-- an act with this source: its words, and its argument behind them
 abbrev pub act_text : List (List ℕ) → Act → Option ℕ → List ℕ
 act_text names (Work steps) source = codes "work " ++ decimal steps
-act_text names (Call op) None = op_words names op
-act_text names (Call op) (Some source) = named_words names op source
+act_text names (Call op) source = call_words names op ++ argument_text op source
 
+-- the name that a leaf gets, if it gets one
 abbrev pub let_text : Bool → ℕ → List ℕ
 let_text named number = if named then codes "let " ++ (name_text number ++ codes " = ") else []
 
+-- a leaf
 abbrev pub leaf_text : List (List ℕ) → WrittenLeaf → List ℕ
 leaf_text names written = let_text written.named written.number ++ act_text names written.act written.source
 
+-- the first of the leaves
 abbrev pub first_leaf_text : List (List ℕ) → List WrittenLeaf → List ℕ
 first_leaf_text names [] = []
 first_leaf_text names (written ∷ more) = leaf_text names written
@@ -73,5 +82,6 @@ abbrev pub shape_text : List (List ℕ) → Option Tree → List WrittenLeaf →
 shape_text names None written = []
 shape_text names (Some tree) written = tree_text names tree written ++ codes "\n"
 
+-- the canonical text of a job
 abbrev pub canonical_text : JobValue → List ℕ
 canonical_text job = shape_text job.names job.shape (written_leaves job)

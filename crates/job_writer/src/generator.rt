@@ -130,7 +130,7 @@ fn push_parts(
 }
 
 /// The job with this growing phase: its parts, in series.
-#[tactic(auto, using(crate::proofs::GeneratorLemmas::Counts::leaves_are_acts, crate::proofs::GeneratorLemmas::Counts::few_acts, crate::proofs::GeneratorLemmas::Unnamed::all_unnamed))]
+#[tactic(auto, using(crate::proofs::GeneratorLemmas::Counts::leaves_are_acts, crate::proofs::GeneratorLemmas::Counts::few_acts, crate::proofs::GeneratorLemmas::Each::all_unnamed))]
 fn job_growing_by(alloc: Global, ops: &[Op]) -> Result<Job, AllocError>
     requires few { length ops.now ≤ 5000 }
     requires small { HaveSmallKeys ops.now }

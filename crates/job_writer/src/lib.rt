@@ -6,7 +6,7 @@
 //!
 //! In `specs/` the rules stand at the top, and what only the code and its proofs cite in `Code/`. The crate stands on
 //! `job_lang`, which says of which job a text is, and which joins shapes, on `sp_order` and `seq_objects`, for jobs and
-//! their acts, and on `job_names`, for the names of objects.
+//! their acts, on `job_names`, for the names of objects, and on `call_words`, which writes the words of a call.
 #![tactic(auto)]
 
 mod generator;

@@ -1,56 +1,40 @@
 //! The writer of canonical texts.
-ghost use Rattle.std.specs.Prelude.{◌≡◌, ◌<◌, ◌≤◌, ◌+◌, ◌++◌, [], if◌then◌else◌, IfOk, OnOk, length, take, drop, string_bytes};
-ghost use Rattle.seq_objects.specs.Words.{argument_words};
+ghost use Rattle.std.specs.Prelude.{◌≡◌, ◌<◌, ◌≤◌, ◌+◌, ◌++◌, [], IfOk, OnOk, length, take, drop, string_bytes};
 ghost use Rattle.sp_order.specs.Precedence.{tree_of, leaves};
 ghost use Rattle.sp_order.specs.Depth.{depth_of};
 ghost use Rattle.sp_order.specs.Jobs.{IsJob};
 ghost use Rattle.sp_order.specs.Phases.{HasNoSources};
-ghost use Rattle.sp_order.specs.Sources.{has_argument};
 ghost use Rattle.job_lang.specs.ActNumbers.{op_number, act_number, IsSmall};
 ghost use Rattle.job_writer.specs.Code.Smalls.{IsSmallLeaf, AreSmallLeaves};
 ghost use Rattle.job_lang.specs.Language.{IsJobOf};
-ghost use Rattle.job_writer.specs.Canonical.{name_text, act_text, leaf_text, first_leaf_text, tree_text, written_leaves, canonical_text};
+ghost use Rattle.job_writer.specs.Canonical.{argument_text, act_text, leaf_text, first_leaf_text, tree_text, written_leaves, canonical_text};
 ghost use Rattle.job_writer.specs.Code.Sides.{sides_text};
 ghost use Rattle.job_writer.specs.Code.Writable.{texts_of, IsWritable, AreWritable};
 
 mod written;
 
 use crate::writer::written::{WrittenLeaf, written_leaves};
+use call_words::push_call;
 use job_names::Name;
 use seq_objects::{Act, Op};
-use sp_order::{Job, Shape, push_call};
+use sp_order::{Job, Shape};
 use std::alloc::{AllocError, Global};
 use std::fmt::Write;
 
-/// Writes the argument of an operation, if it takes one.
-fn push_argument(text: &mut String, op: Op) -> Result<(), AllocError>
-    ensures text { OnOk result (string_bytes text.new ≡ string_bytes text.old ++ argument_words op) }
+/// Writes the argument of an operation, if it takes one: the name of its source, if it has one, else its number.
+fn push_argument(text: &mut String, op: Op, source: Option<u32>) -> Result<(), AllocError>
+    ensures text { OnOk result (string_bytes text.new ≡ string_bytes text.old ++ argument_text op source) }
     ensures small { IsSmall (op_number op) }
 {
-    match op {
-        Op::CounterAdd(_, argument)
-        | Op::Push(_, argument)
-        | Op::TreeInsert(_, argument)
-        | Op::TreeRemove(_, argument)
-        | Op::TreeFind(_, argument)
-        | Op::TreeNext(_, argument)
-        | Op::PqInsert(_, argument) => write!(text, "{argument}"),
-        Op::Pop(_) | Op::PqTake(_) => Ok(()),
+    let argument = op.argument();
+    match (op.takes_argument(), source) {
+        (false, _) => Ok(()),
+        (true, None) => write!(text, "{argument}"),
+        (true, Some(source)) => write!(text, "v{source}"),
     }
 }
 
-/// Writes the name of its source as the argument of an operation, if it takes one.
-fn push_source(text: &mut String, op: Op, source: u32) -> Result<(), AllocError>
-    ensures { OnOk result
-        (string_bytes text.new
-        ≡ string_bytes text.old ++ (if has_argument op then name_text source else [])) }
-{
-    match op {
-        Op::Pop(_) | Op::PqTake(_) => Ok(()),
-        _ => write!(text, "v{source}"),
-    }
-}
-
+/// Writes an act with this source.
 fn push_act(
     text: &mut String,
     names: &[Name],
@@ -61,15 +45,11 @@ fn push_act(
     ensures text { OnOk result (string_bytes text.new ≡ string_bytes text.old ++ act_text (texts_of names.now) act source) }
     ensures small { OnOk result (IsSmall (act_number act)) }
 {
-    match (act, source) {
-        (Act::Work(steps), _) => write!(text, "work {steps}"),
-        (Act::Call(op), None) => {
+    match act {
+        Act::Work(steps) => write!(text, "work {steps}"),
+        Act::Call(op) => {
             push_call(text, names, op)?;
-            push_argument(text, op)
-        }
-        (Act::Call(op), Some(source)) => {
-            push_call(text, names, op)?;
-            push_source(text, op, source)
+            push_argument(text, op, source)
         }
     }
 }

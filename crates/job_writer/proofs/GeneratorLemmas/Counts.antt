@@ -4,7 +4,7 @@ use Rattle.std.specs.Prelude.{sum_by}
 use Rattle.std.proofs.lemmas.List.{length-map, length-replicate}
 use Rattle.std.proofs.lemmas.List.Sums.{sum_by-append, sum_by-cons}
 use Rattle.seq_objects.specs.declared.op.Op.{Op}
-use Rattle.seq_objects.specs.declared.op.Op.TheVariants.{CounterAdd, Push, Pop, TreeInsert, TreeRemove, TreeFind, TreeNext, PqInsert, PqTake}
+use Rattle.seq_objects.specs.declared.op.Op.TheVariants.{CounterAdd, Pop, PqTake}
 use Rattle.seq_objects.specs.declared.act.Act.TheVariants.{Call}
 use Rattle.sp_order.specs.Precedence.{Tree, leaf, seq, par, leaves, leaf_count}
 use Rattle.sp_order.specs.Totals.{pushes, queue_inserts, total}
@@ -25,14 +25,7 @@ length_calls ops = length-map ops (λ op. Call op)
 pub answers : (ops : List Op) → length (finds_for ops) + total pushes (calls ops) + total queue_inserts (calls ops) ≤ length ops
 answers [] = omega arith
 answers (CounterAdd number addend ∷ ops) = omega (arith, answers ops)
-answers (Push number item ∷ ops) = omega (arith, answers ops)
-answers (Pop number ∷ ops) = omega (arith, answers ops)
-answers (TreeInsert number key ∷ ops) = omega (arith, answers ops)
-answers (TreeRemove number key ∷ ops) = omega (arith, answers ops)
-answers (TreeFind number key ∷ ops) = omega (arith, answers ops)
-answers (TreeNext number key ∷ ops) = omega (arith, answers ops)
-answers (PqInsert number item ∷ ops) = omega (arith, answers ops)
-answers (PqTake number ∷ ops) = omega (arith, answers ops)
+answers (_ ∷ ops) = omega (arith, answers ops)
 
 pub length_pops : (ops : List Op) → length (pops_for ops) ≡ total pushes (calls ops) + 1
 length_pops ops = length-replicate (total pushes (calls ops) + 1) (Pop 0)

@@ -1,11 +1,13 @@
 -- The drawn operations: there are as many as asked for, and each inserts a small number.
-use Rattle.std.proofs.Common.{◌≡◌, ℕ, zero, suc, ◌/◌, ◌%◌, ◌^◌, ◌<◌, Bool, true, false, List, [], ◌∷◌, length, Some, refl, subst, arith}
-use Rattle.std.specs.Prelude.{slice_get, ◌==◌, if◌then◌else◌}
+use Rattle.std.proofs.Common.{◌≡◌, ℕ, zero, suc, ◌/◌, ◌%◌, ◌^◌, ◌<◌, Bool, true, false, List, length, refl, arith}
+use Rattle.std.specs.Prelude.{◌==◌, if◌then◌else◌}
 use Rattle.std.specs.List.{AllByRecursion}
 use Rattle.seq_objects.specs.declared.op.Op.{Op}
 use Rattle.seq_objects.specs.declared.op.Op.TheVariants.{CounterAdd, Push, TreeInsert, PqInsert}
 use Rattle.seq_objects.specs.Objects.{argument_of, number_of}
+use Rattle.seq_objects.proofs.Elements.{each_so}
 use Rattle.sp_order.specs.Totals.{pops, tree_removes, tree_finds, queue_takes}
+use Rattle.job_writer.proofs.WriterLemmas.Sources.{each_get}
 use Rattle.job_writer.specs.Code.Draws.{HaveSmallKeys}
 use Rattle.job_writer.specs.Generator.{next_number, op_drawn, growing_ops}
 
@@ -38,19 +40,13 @@ pub length_growing : (seed size : ℕ) → length (growing_ops seed size) ≡ si
 length_growing seed zero = refl
 length_growing seed (suc size) = omega (arith, length_growing (next_number seed) size)
 
-grows_at : (ops : List Op) (i : ℕ) (op : Op) → AllByRecursion Grows ops → slice_get ops i ≡ Some op → Grows op
-grows_at [] i op all is = cc
-grows_at (o ∷ ops) zero op all is = let same : o ≡ op = cc in subst Grows same all.0
-grows_at (o ∷ ops) (suc i) op all is = grows_at ops i op all.1 is
-
 -- the keys inserted into the tree are small, so those of the finds fit
 pub small_keys : (seed size : ℕ) → HaveSmallKeys (growing_ops seed size)
-small_keys seed size i number key is = (grows_at (growing_ops seed size) i (TreeInsert number key) (all_grow seed size) is).small
+small_keys seed size i number key is = (each_get Grows (growing_ops seed size) i (TreeInsert number key) (all_grow seed size) is).small
 
 -- all objects have the number 0
 pub first_ops : (ops : List Op) → AllByRecursion Grows ops → AllByRecursion (λ op. number_of op ≡ 0) ops
-first_ops [] all = tt
-first_ops (op ∷ ops) all = (all.0.number, first_ops ops all.1)
+first_ops = each_so Grows _ (λ op grows. grows.number)
 
 pub first_growing : (seed size : ℕ) → AllByRecursion (λ op. number_of op ≡ 0) (growing_ops seed size)
 first_growing seed size = first_ops (growing_ops seed size) (all_grow seed size)

@@ -6,7 +6,8 @@ use Rattle.std.proofs.lemmas.List.Sums.{sum_by-take-drop}
 use Rattle.std.proofs.lemmas.List.{length-map}
 use Rattle.std.proofs.lemmas.Option.{slice_get_within}
 use Rattle.seq_objects.specs.declared.op.Op.{Op}
-use Rattle.seq_objects.specs.declared.op.Op.TheVariants.{CounterAdd, Push, Pop, TreeInsert, TreeRemove, TreeFind, TreeNext, PqInsert, PqTake}
+use Rattle.seq_objects.specs.declared.op.Op.TheVariants.{Pop, TreeFind, PqTake}
+use Rattle.seq_objects.specs.Objects.{argument_of}
 use Rattle.seq_objects.specs.declared.act.Act.TheVariants.{Call}
 use Rattle.sp_order.specs.Precedence.{Tree, leaf, seq, par, leaves, leaf_count, IsBefore, IsBeforeFrom}
 use Rattle.sp_order.specs.Totals.{pushes, pops, tree_inserts, tree_removes, tree_finds, queue_inserts, queue_takes, total}
@@ -15,11 +16,11 @@ use Rattle.job_lang.specs.Joins.{half, both, join_within, join_of}
 use Rattle.job_writer.specs.Generator.{growing_ops, finds_for, calls, pops_for, takes_for, part, all_ops, job_growing_by, generated}
 use Rattle.job_writer.proofs.GeneratorLemmas.Sources.{none_each}
 use Rattle.job_lang.proofs.ExpandLemmas.Leaves.{join_within_leaves}
-use Rattle.seq_objects.proofs.Elements.{each_append}
+use Rattle.seq_objects.proofs.Elements.{each_so}
 use Rattle.job_writer.proofs.GeneratorLemmas.Phases.{total_append}
 use Rattle.job_writer.proofs.GeneratorLemmas.Counts.{later_ops, later_parts, later_leaves, length_acts, each_leaf}
 use Rattle.job_writer.proofs.GeneratorLemmas.Draws.{Grows, all_grow, length_growing, first_ops}
-use Rattle.job_writer.proofs.GeneratorLemmas.Unnamed.{all_unnamed}
+use Rattle.job_writer.proofs.GeneratorLemmas.Each.{each_later, all_unnamed}
 use Rattle.std.proofs.lemmas.Bool.{cases_lt}
 
 -- the tree of a shape that is present, with its number of leaves
@@ -86,10 +87,6 @@ lacks_at count [] u op lacks is = cc
 lacks_at count (o ∷ ops) zero op lacks is = let same : o ≡ op = cc in ap count (sym same) ∙ lacks.0
 lacks_at count (o ∷ ops) (suc u) op lacks is = lacks_at count ops u op lacks.1 is
 
-lacks_copies : (count : Op → ℕ) (n : ℕ) (op : Op) → count op ≡ 0 → Lacks count (replicate n op)
-lacks_copies count zero op h = tt
-lacks_copies count (suc n) op h = (h, lacks_copies count n op h)
-
 -- where one of two lists has nothing that counts, an operation that counts is in the other
 in_first : (count : Op → ℕ) (xs ys : List Op) (u : ℕ) (op : Op) → Lacks count ys → slice_get (calls (xs ++ ys)) u ≡ Some (Call op) → 1 ≤ count op → u < length xs
 in_first count [] ys u op lacks is counts = absurd (omega (arith, counts, lacks_at count ys u op lacks is))
@@ -110,29 +107,13 @@ total_copies : (count : Op → ℕ) (n : ℕ) (op : Op) → count op ≡ 1 → t
 total_copies count zero op h = refl
 total_copies count (suc n) op h = omega (arith, h, total_copies count n op h)
 
--- finds count only as finds
-finds_lack : (count : Op → ℕ) (ops : List Op) → ((key : ℕ) → count (TreeFind 0 key) ≡ 0) → Lacks count (finds_for ops)
-finds_lack count [] h = tt
-finds_lack count (TreeInsert number key ∷ ops) h = (h (key + 1), finds_lack count ops h)
-finds_lack count (CounterAdd number addend ∷ ops) h = finds_lack count ops h
-finds_lack count (Push number item ∷ ops) h = finds_lack count ops h
-finds_lack count (Pop number ∷ ops) h = finds_lack count ops h
-finds_lack count (TreeRemove number key ∷ ops) h = finds_lack count ops h
-finds_lack count (TreeFind number key ∷ ops) h = finds_lack count ops h
-finds_lack count (TreeNext number key ∷ ops) h = finds_lack count ops h
-finds_lack count (PqInsert number item ∷ ops) h = finds_lack count ops h
-finds_lack count (PqTake number ∷ ops) h = finds_lack count ops h
-
-later_lacks : (count : Op → ℕ) (ops : List Op) → ((key : ℕ) → count (TreeFind 0 key) ≡ 0) → count (Pop 0) ≡ 0 → count (PqTake 0) ≡ 0 → Lacks count (later_ops ops)
-later_lacks count ops find pop take =
-    each_append _ (finds_for ops) (pops_for ops ++ takes_for ops) (finds_lack count ops find)
-    (each_append _ (pops_for ops) (takes_for ops) (lacks_copies count (total pushes (calls ops) + 1) (Pop 0) pop) (lacks_copies count (total queue_inserts (calls ops) + 1) (PqTake 0) take))
-
-each_grown : (P : Op → Type 0) → ((op : Op) → Grows op → P op) → (ops : List Op) → AllByRecursion Grows ops → AllByRecursion P ops
-each_grown P gives [] all = tt
-each_grown P gives (op ∷ ops) all = (gives op all.0, each_grown P gives ops all.1)
-
 module _ (ops : List Op) (some : 0 < length ops) (grow : AllByRecursion Grows ops) where
+  first_lacks : (count : Op → ℕ) → ((op : Op) → Grows op → count op ≡ 0) → Lacks count ops
+  first_lacks count none = each_so Grows _ none ops grow
+
+  later_lacks : (count : Op → ℕ) → ((key : ℕ) → count (TreeFind 0 key) ≡ 0) → count (Pop 0) ≡ 0 → count (PqTake 0) ≡ 0 → Lacks count (later_ops ops)
+  later_lacks count find pop take = each_later (λ op. count op ≡ 0) ops (each_so Grows _ (λ op grows. find (argument_of op + 1)) ops grow) pop take
+
   comes_before : (early late : Op → ℕ) → Lacks early (later_ops ops) → Lacks late ops → ComesBefore (job_growing_by ops) early late
   comes_before early late later first = λ u v op op' is is' counts counts'.
       let low = in_first early ops (later_ops ops) u op later is counts in
@@ -151,14 +132,14 @@ module _ (ops : List Op) (some : 0 < length ops) (grow : AllByRecursion Grows op
 
   pub fills_first : FillsFirst (job_growing_by ops)
   fills_first = record {
-    stack = comes_before pushes pops (later_lacks pushes ops (λ key. refl) refl refl) (each_grown _ (λ op grows. grows.pops) ops grow);
-    queue = comes_before queue_inserts queue_takes (later_lacks queue_inserts ops (λ key. refl) refl refl) (each_grown _ (λ op grows. grows.takes) ops grow);
-    tree = comes_before tree_inserts tree_finds (later_lacks tree_inserts ops (λ key. refl) refl refl) (each_grown _ (λ op grows. grows.finds) ops grow);
+    stack = comes_before pushes pops (later_lacks pushes (λ key. refl) refl refl) (first_lacks pops (λ op grows. grows.pops));
+    queue = comes_before queue_inserts queue_takes (later_lacks queue_inserts (λ key. refl) refl refl) (first_lacks queue_takes (λ op grows. grows.takes));
+    tree = comes_before tree_inserts tree_finds (later_lacks tree_inserts (λ key. refl) refl refl) (first_lacks tree_finds (λ op grows. grows.finds));
     empties_stack =
-        omega (arith, total_first pushes (later_lacks pushes ops (λ key. refl) refl refl), total_all pops, total_later pops, total_copies pops (total pushes (calls ops) + 1) (Pop 0) refl);
+        omega (arith, total_first pushes (later_lacks pushes (λ key. refl) refl refl), total_all pops, total_later pops, total_copies pops (total pushes (calls ops) + 1) (Pop 0) refl);
     empties_queue =
-        omega (arith, total_first queue_inserts (later_lacks queue_inserts ops (λ key. refl) refl refl), total_all queue_takes, total_later queue_takes, total_copies queue_takes (total queue_inserts (calls ops) + 1) (PqTake 0) refl);
-    keeps_keys = total_first tree_removes (later_lacks tree_removes ops (λ key. refl) refl refl) ∙ total_lacks tree_removes ops (each_grown _ (λ op grows. grows.removes) ops grow);
+        omega (arith, total_first queue_inserts (later_lacks queue_inserts (λ key. refl) refl refl), total_all queue_takes, total_later queue_takes, total_copies queue_takes (total queue_inserts (calls ops) + 1) (PqTake 0) refl);
+    keeps_keys = total_first tree_removes (later_lacks tree_removes (λ key. refl) refl refl) ∙ total_lacks tree_removes ops (first_lacks tree_removes (λ op grows. grows.removes));
     no_sources = none_each (length (calls (all_ops ops)));
     unnamed = all_unnamed ops (first_ops ops grow);
   }

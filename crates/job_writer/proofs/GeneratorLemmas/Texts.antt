@@ -1,29 +1,28 @@
 -- The generated job has a canonical text: its depth and its numbers are within the limits.
-use Rattle.std.proofs.Common.{◌≡◌, ℕ, zero, suc, ◌+◌, ◌*◌, ◌^◌, ◌<◌, ◌≤◌, max, List, [], ◌∷◌, ◌++◌, length, map, take, drop, replicate, Option, Some, None, refl, arith, length-append, length-take, length-drop}
+use Rattle.std.proofs.Common.{◌≡◌, ℕ, zero, suc, ◌+◌, ◌*◌, ◌^◌, ◌<◌, ◌≤◌, max, List, [], ◌∷◌, length, map, take, drop, Option, Some, None, refl, arith, length-append, length-take, length-drop}
 use Rattle.std.specs.Prelude.{option_to_list}
 use Rattle.std.specs.List.{AllByRecursion}
 use Rattle.std.proofs.lemmas.List.{length-map}
 use Rattle.seq_objects.specs.declared.op.Op.{Op}
-use Rattle.seq_objects.specs.declared.op.Op.TheVariants.{CounterAdd, Push, Pop, TreeInsert, TreeRemove, TreeFind, TreeNext, PqInsert, PqTake}
+use Rattle.seq_objects.specs.declared.op.Op.TheVariants.{Pop, PqTake}
 use Rattle.seq_objects.specs.Objects.{argument_of}
 use Rattle.sp_order.specs.Precedence.{Tree, leaf, seq, par, leaf_count}
 use Rattle.sp_order.specs.Depth.{tree_depth, depth_of}
 use Rattle.sp_order.specs.Jobs.{IsJob}
-use Rattle.sp_order.specs.Totals.{pushes, queue_inserts, total}
-use Rattle.job_lang.specs.ActNumbers.{op_number, IsSmall, AreSmall}
+use Rattle.job_lang.specs.ActNumbers.{op_number, act_number, IsSmall, AreSmall}
 use Rattle.job_writer.specs.Canonical.{written_leaves, canonical_text}
 use Rattle.job_lang.specs.Joins.{half, both, join_within, join_of}
 use Rattle.job_lang.specs.Language.{IsJobOf}
 use Rattle.job_writer.specs.Generator.{growing_ops, finds_for, calls, pops_for, takes_for, part, all_ops, all_parts, job_growing_by, generated}
 use Rattle.job_writer.proofs.GeneratorLemmas.Sources.{none_are_sources, none_each}
 use Rattle.job_writer.specs.Code.Smalls.{AreSmallLeaves}
-use Rattle.job_writer.proofs.GeneratorLemmas.Counts.{later_ops, answers, length_pops, length_takes, length_acts, later_some, few_acts, leaves_are_acts}
+use Rattle.job_writer.proofs.GeneratorLemmas.Counts.{answers, length_pops, length_takes, length_acts, later_some, few_acts, leaves_are_acts}
 use Rattle.job_writer.proofs.GeneratorLemmas.Draws.{Grows, all_grow, length_growing, first_growing}
-use Rattle.job_writer.proofs.GeneratorLemmas.Unnamed.{all_unnamed}
+use Rattle.job_writer.proofs.GeneratorLemmas.Each.{each_op, each_call, all_unnamed}
 use Rattle.sp_order.proofs.ObjectLemmas.{unnamed_are_named}
 use Rattle.job_lang.proofs.EachOf.{each_of_first, each_of_rest}
 use Rattle.job_writer.proofs.WriterLemmas.Jobs.{canonical_is_job, plain_is_short, small_from}
-use Rattle.seq_objects.proofs.Elements.{each_append}
+use Rattle.seq_objects.proofs.Elements.{each_append, each_so}
 
 -- trees of at most this depth
 abbrev AreWithin : ℕ → List Tree → Type 0
@@ -87,45 +86,14 @@ depth_few ops few = omega (arith, join_depth seq (λ a b. refl) 13 (length (all_
 
 -- the numbers fit
 small_op : (op : Op) → argument_of op < 65536 → IsSmall (op_number op)
-small_op (CounterAdd number addend) h = omega (arith, h)
-small_op (Push number item) h = omega (arith, h)
-small_op (Pop number) h = tt
-small_op (TreeInsert number key) h = omega (arith, h)
-small_op (TreeRemove number key) h = omega (arith, h)
-small_op (TreeFind number key) h = omega (arith, h)
-small_op (TreeNext number key) h = omega (arith, h)
-small_op (PqInsert number item) h = omega (arith, h)
-small_op (PqTake number) h = tt
-
-small_append : (xs ys : List Op) → AreSmall (calls xs) → AreSmall (calls ys) → AreSmall (calls (xs ++ ys))
-small_append [] ys h g = g
-small_append (x ∷ xs) ys h g = (h.0, small_append xs ys h.1 g)
-
-small_growing : (ops : List Op) → AllByRecursion Grows ops → AreSmall (calls ops)
-small_growing [] grow = tt
-small_growing (op ∷ ops) grow = (small_op op grow.0.small, small_growing ops grow.1)
-
-small_finds : (ops : List Op) → AllByRecursion Grows ops → AreSmall (calls (finds_for ops))
-small_finds [] grow = tt
-small_finds (TreeInsert number key ∷ ops) grow = (omega (arith, grow.0.small), small_finds ops grow.1)
-small_finds (CounterAdd number addend ∷ ops) grow = small_finds ops grow.1
-small_finds (Push number item ∷ ops) grow = small_finds ops grow.1
-small_finds (Pop number ∷ ops) grow = small_finds ops grow.1
-small_finds (TreeRemove number key ∷ ops) grow = small_finds ops grow.1
-small_finds (TreeFind number key ∷ ops) grow = small_finds ops grow.1
-small_finds (TreeNext number key ∷ ops) grow = small_finds ops grow.1
-small_finds (PqInsert number item ∷ ops) grow = small_finds ops grow.1
-small_finds (PqTake number ∷ ops) grow = small_finds ops grow.1
-
-small_copies : (n : ℕ) (op : Op) → IsSmall (op_number op) → AreSmall (calls (replicate n op))
-small_copies zero op h = tt
-small_copies (suc n) op h = (h, small_copies n op h)
+small_op (Pop number) few = tt
+small_op (PqTake number) few = tt
+small_op _ few = omega (arith, few)
 
 pub all_small : (ops : List Op) → AllByRecursion Grows ops → AreSmall (calls (all_ops ops))
 all_small ops grow =
-    small_append ops (later_ops ops) (small_growing ops grow)
-    (small_append (finds_for ops) (pops_for ops ++ takes_for ops) (small_finds ops grow)
-    (small_append (pops_for ops) (takes_for ops) (small_copies (total pushes (calls ops) + 1) (Pop 0) tt) (small_copies (total queue_inserts (calls ops) + 1) (PqTake 0) tt)))
+    each_call (λ act. IsSmall (act_number act)) (all_ops ops)
+    (each_op (λ op. IsSmall (op_number op)) ops (each_so Grows _ (λ op grows. small_op op grows.small) ops grow) (each_so Grows _ (λ op grows. omega (arith, grows.small)) ops grow) tt tt)
 
 -- what the laws say of the generated job
 generated_is_job : (seed size : ℕ) → size ≤ 5000 → IsJob (generated seed size)
@@ -153,7 +121,7 @@ generated_small : (seed size : ℕ) → size ≤ 5000 → AreSmallLeaves (writte
 generated_small seed size few =
     let job = generated seed size in
     let most = (generated_is_job seed size few).most in
-    small_from job.sources 0 job.acts job.sources (omega (arith, most)) (all_small (growing_ops seed size) (all_grow seed size)) (none_each (length job.acts))
+    small_from job.sources job.acts job.sources (omega (arith, most)) (all_small (growing_ops seed size) (all_grow seed size)) (none_each (length job.acts))
 
 pub generated_short : (seed size : ℕ) → size ≤ 5000 → length (canonical_text (generated seed size)) < 700000
 generated_short seed size few = plain_is_short (generated seed size) (generated_is_job seed size few) (generated_small seed size few) refl (none_each (length (generated seed size).acts))

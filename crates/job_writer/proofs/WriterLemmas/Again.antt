@@ -5,9 +5,9 @@ use Rattle.std.specs.List.{list_any, position_or_len}
 use Rattle.seq_objects.specs.declared.act.Act.{Act}
 use Rattle.seq_objects.specs.declared.act.Act.TheVariants.{Work, Call}
 use Rattle.seq_objects.specs.declared.op.Op.{Op}
-use Rattle.seq_objects.specs.declared.op.Op.TheVariants.{CounterAdd, Push, Pop, TreeInsert, TreeRemove, TreeFind, TreeNext, PqInsert, PqTake}
-use Rattle.seq_objects.specs.Batches.{ObjectKind, kind_of}
-use Rattle.seq_objects.specs.Objects.{number_of}
+use Rattle.seq_objects.specs.declared.op.Op.TheVariants.{CounterAdd}
+use Rattle.seq_objects.specs.declared.kind.Kind.{Kind}
+use Rattle.seq_objects.specs.Parts.{kind_of, number_of}
 use Rattle.sp_order.specs.Objects.{number_in, numbered, with_number, AreByFirstUse, name_of_number, AreNamed}
 use Rattle.job_names.specs.Names.{name_of, spelling}
 use Rattle.job_lang.specs.Objects.{NamedObject, same_object, with_object, named_behind, numbers_of, names_of, object_numbered, object_called}
@@ -21,14 +21,7 @@ use Rattle.std.proofs.lemmas.Option.{slice_get_within}
 
 call_back : (op : Op) → with_number (with_number op 0) (number_of op) ≡ op
 call_back (CounterAdd number addend) = refl
-call_back (Push number item) = refl
-call_back (Pop number) = refl
-call_back (TreeInsert number key) = refl
-call_back (TreeRemove number key) = refl
-call_back (TreeFind number key) = refl
-call_back (TreeNext number key) = refl
-call_back (PqInsert number item) = refl
-call_back (PqTake number) = refl
+call_back _ = refl
 
 pub numbered_back : (act : Act) → numbered (numbered act 0) (number_in act) ≡ act
 numbered_back (Work steps) = refl
@@ -51,7 +44,7 @@ module _ (all : List Act) (given : List (List ℕ)) (named : AreNamed all given)
   IsAct act = (u : ℕ) × (slice_get all u ≡ Some act)
 
   -- the object of this kind at this place, by its name
-  abbrev object_at : ObjectKind → ℕ → NamedObject
+  abbrev object_at : Kind → ℕ → NamedObject
   object_at kind place = record { kind = kind; name = name_of (slice_index_or given place []) }
 
   -- an object that is known at a place is that of a call with its number

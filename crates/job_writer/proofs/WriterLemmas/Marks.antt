@@ -1,39 +1,25 @@
 -- Which leaves are sources, source by source.
-use Rattle.std.proofs.Common.{◌≡◌, ℕ, zero, suc, ◌+◌, ◌<◌, List, [], ◌∷◌, ◌++◌, length, take, get_or, Result, Ok, Err, Bool, true, false, Option, Some, None, refl, sym, ap, ◌∙◌, arith}
+use Rattle.std.proofs.Common.{◌≡◌, ℕ, zero, suc, ◌+◌, ◌<◌, List, [], ◌∷◌, ◌++◌, length, take, Result, Ok, Err, Option, Some, None, sym, ap, ◌∙◌, arith}
 use Rattle.std.specs.Prelude.{◌||◌, slice_get, IfSome, OnOk}
 use Rattle.seq_objects.specs.declared.act.Act.{Act}
 use Rattle.seq_objects.specs.declared.act.Act.TheVariants.{Call}
 use Rattle.sp_order.specs.Precedence.{Tree}
 use Rattle.sp_order.specs.Sources.{AreSources}
 use Rattle.job_writer.specs.Canonical.{WrittenLeaf, is_leaf, is_source, written_from}
-use Rattle.job_syntax.proofs.ParserLemmas.OpenStacks.{or_assoc}
 use Rattle.std.proofs.lemmas.Option.{slice_get_within}
-
-or_false : (a : Bool) → (a || false) ≡ a
-or_false true = refl
-or_false false = refl
-
-pub or_true : (a : Bool) → (a || true) ≡ true
-or_true true = refl
-or_true false = refl
+use Rattle.std.proofs.Math.Bool.{or-false, or_assoc}
 
 -- the sources before a place, and one more
 source_more_at : (sources : List (Option ℕ)) (i leaf : ℕ) (source : Option ℕ) → slice_get sources i ≡ Some source → is_source (take (suc i) sources) leaf ≡ (is_source (take i sources) leaf || is_leaf leaf source)
 source_more_at [] i leaf source e = cc
 source_more_at (first ∷ sources) zero leaf source e =
-    let same : first ≡ source = cc in or_false (is_leaf leaf first) ∙ ap (is_leaf leaf) same
+    let same : first ≡ source = cc in or-false (is_leaf leaf first) ∙ ap (is_leaf leaf) same
 source_more_at (first ∷ sources) (suc i) leaf source e =
     ap (λ b. is_leaf leaf first || b) (source_more_at sources i leaf source e) ∙ sym (or_assoc (is_leaf leaf first) (is_source (take i sources) leaf) (is_leaf leaf source))
 
 pub source_more : (sources : List (Option ℕ)) (i leaf : ℕ) (source : Option ℕ) → slice_get sources i ≡ Some source → is_source (take (i + 1) sources) leaf ≡ (is_source (take i sources) leaf || is_leaf leaf source)
 source_more sources i leaf source e =
     let next : i + 1 ≡ suc i = omega arith in ap (λ n. is_source (take n sources) leaf) next ∙ source_more_at sources i leaf source e
-
-pub all_taken : {X : Type 0} (xs : List X) (n : ℕ) → length xs ≡ n → take n xs ≡ xs
-all_taken [] zero e = refl
-all_taken [] (suc n) e = absurd (omega (arith, e))
-all_taken (first ∷ xs) zero e = absurd (omega (arith, e))
-all_taken (first ∷ xs) (suc n) e = ap (λ l. first ∷ l) (all_taken xs n (omega (arith, e)))
 
 -- a job's source is one of its leaves
 pub source_below : (shape : Option Tree) (acts : List Act) (sources : List (Option ℕ)) (leaf : ℕ) (r : Option ℕ) → AreSources shape acts sources → slice_get sources leaf ≡ Some r → IfSome r (λ source. source < length acts)
@@ -58,16 +44,6 @@ pub written_more : (all : List (Option ℕ)) (acts : List Act) (sources : List (
 written_more all acts sources i act source e f =
     let next : i + 1 ≡ suc i = omega arith in
     ap (λ n. written_from all 0 (take n acts) (take n sources)) next ∙ written_more_at all 0 acts sources i i act source (omega arith) e f
-
-pub get_or_from : {X : Type 0} (xs : List X) (i : ℕ) (x d : X) → slice_get xs i ≡ Some x → get_or xs i d ≡ x
-get_or_from [] i x d e = cc
-get_or_from (first ∷ xs) zero x d e = cc
-get_or_from (first ∷ xs) (suc i) x d e = get_or_from xs i x d e
-
-pub get_at : {X : Type 0} (xs : List X) (i : ℕ) (d : X) → i < length xs → slice_get xs i ≡ Some (get_or xs i d)
-get_at [] i d h = absurd (omega (arith, h))
-get_at (first ∷ xs) zero d h = refl
-get_at (first ∷ xs) (suc i) d h = get_at xs i d (omega (arith, h))
 
 pub one_pushed : (all : List (Option ℕ)) (acts : List Act) (sources : List (Option ℕ)) (i : ℕ) (old new : List WrittenLeaf) (one : WrittenLeaf) → old ≡ written_from all 0 (take i acts) (take i sources) → new ≡ old ++ one ∷ []
     → one.number ≡ i → one.named ≡ is_source all i → slice_get acts i ≡ Some one.act → slice_get sources i ≡ Some one.source → new ≡ written_from all 0 (take (i + 1) acts) (take (i + 1) sources)

@@ -7,10 +7,9 @@ use Rattle.std.proofs.lemmas.Fmt.{length-decimal-le}
 use Rattle.std.proofs.lemmas.Grind.{common_steps}
 use Rattle.job_names.specs.declared.name.Name.{Name}
 use Rattle.job_names.specs.Names.{is_in_name, is_spelled, name_of}
-use Rattle.job_syntax.specs.declared.lexer.word.Word.{Word}
 use Rattle.job_syntax.specs.declared.lexer.word.Word.TheVariants.{Named}
 use Rattle.job_syntax.specs.Text.{tokens_from, is_in_chunk, begins_in_chunk}
-use Rattle.job_syntax.specs.Words.{digits_from, quoted_or, argument_word, word_of}
+use Rattle.job_syntax.specs.Words.{digits_from, argument_word, word_of}
 use Rattle.job_writer.specs.Canonical.{name_text}
 use Rattle.job_names.proofs.Spellings.{one_spelling}
 use Rattle.job_writer.proofs.WriterLemmas.Decimals.{each_byte, decimal_in_chunk, chunk_token, decimal_says}
@@ -29,11 +28,11 @@ spelled n small =
     let few = decimal_few n small in
     and_from _ _ (le-leb (length (decimal n)) 31 (omega (arith, few))) (each_byte (λ byte. is_in_name byte) digit_in_name n small)
 
-not_quoted : (text : List ℕ) (given : Word) → quoted_or (118 ∷ text) given ≡ given
-not_quoted text given = refl
+not_quoted : (text : List ℕ) → word_of (118 ∷ text) ≡ argument_word (118 ∷ text)
+not_quoted text = refl
 
 pub name_word : (n : ℕ) → n < 2 ^ 32 → word_of (name_text n) ≡ Named (leaf_name n)
-name_word n small = not_quoted (decimal n) (argument_word (118 ∷ decimal n)) ∙ rw (spelled n small) refl
+name_word n small = not_quoted (decimal n) ∙ rw (spelled n small) refl
 
 name_in_chunk : (n : ℕ) → n < 2 ^ 32 → list_all is_in_chunk (name_text n) ≡ true
 name_in_chunk n small = decimal_in_chunk n small

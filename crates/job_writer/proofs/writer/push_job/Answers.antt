@@ -1,8 +1,9 @@
 use Rattle.std.proofs.Common.{◌≡◌, ◌∙◌, sym, ap, subst, length, take, arith}
+use Rattle.std.proofs.lemmas.List.{take_all}
 use Rattle.sp_order.specs.Precedence.{tree_of, leaves, leaf_count}
 use Rattle.job_writer.specs.Canonical.{written_leaves}
 use Rattle.job_writer.specs.Code.Smalls.{AreSmallLeaves}
-use Rattle.job_writer.proofs.WriterLemmas.Marks.{all_taken, any_ok}
+use Rattle.job_writer.proofs.WriterLemmas.Marks.{any_ok}
 use Rattle.job_writer.specs.Code.Writable.{AreWritable}
 use Rattle.job_writer.proofs.WriterLemmas.Jobs.{can_be_written}
 use Rattle.job_writer.proofs.WriterLemmas.Sources.{length_from}
@@ -19,7 +20,7 @@ returns-in_ok-push_shape-in-Some-clause-small c =
     let each = is_job.leaves in
     let long : length (written_leaves job) ≡ leaves tree = omega (arith, count, same, each) in
     any_ok c.push_str.result (AreSmallLeaves (written_leaves job))
-    (subst AreSmallLeaves (all_taken (written_leaves job) (leaves tree) long)
+    (subst AreSmallLeaves (take_all (leaves tree) (written_leaves job) (omega (arith, long)))
     (subst (λ all. AreSmallLeaves (take (leaves tree) all)) written c.in_ok-push_shape-in-Some.ensures.small))
 
 pub push_shape-requires : goal.push_shape-requires

@@ -36,7 +36,7 @@ none_told q (call ∷ calls) (reply ∷ replies) none = step (number_of call.op 
   step true none rest = absurd cc
   step false none rest = rest none
 
-length_all : (objects : Objects) (calls : List Call) → length (replies_to_all objects calls) ≡ length calls
+pub length_all : (objects : Objects) (calls : List Call) → length (replies_to_all objects calls) ≡ length calls
 length_all objects [] = refl
 length_all objects (call ∷ calls) = omega (arith, length_all (after objects call.op) calls)
 

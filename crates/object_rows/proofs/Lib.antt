@@ -1,6 +1,7 @@
 pub mod ListLemmas
 pub mod Structures
 pub mod Numbering
+pub mod CallsDealt
 pub mod Adding
 pub mod Taking
 pub mod Dealing

@@ -1,13 +1,15 @@
 -- Replies put at the places of the calls of one number.
-use Rattle.std.proofs.Common.{ℕ, ◌≡◌, ◌==◌, ◌+◌, Bool, true, false, cond, if◌then◌else◌, List, [], ◌∷◌, ◌++◌, length, take, drop, slice_index_or, refl, ap, ◌∙◌, arith, append_assoc}
+use Rattle.std.proofs.Common.{ℕ, ◌≡◌, ◌==◌, ◌+◌, ◌≤◌, Bool, true, false, cond, if◌then◌else◌, List, [], ◌∷◌, ◌++◌, length, drop, slice_index_or, slice_set, refl, ap, sym, ◌∙◌, arith, append_assoc, length-append}
 use Rattle.std.specs.List.{AllByRecursion}
-use Rattle.std.proofs.lemmas.List.{get_or-drop, drop-drop}
+use Rattle.std.proofs.lemmas.List.{drop_all}
 use Rattle.std.proofs.lemmas.Bool.Decides.{nat_tests}
 use Rattle.seq_objects.specs.declared.call.Call.{Call}
 use Rattle.seq_objects.specs.declared.reply.Reply.{Reply}
 use Rattle.seq_objects.specs.Objects.{number_of}
 use Rattle.seq_objects.specs.Batches.{calls_at}
 use Rattle.seq_objects.specs.Stores.{replies_at}
+use Rattle.object_rows.specs.declared.dealt.Dealt.{Dealt}
+use Rattle.object_rows.specs.Code.Dealt.{dealt_at, put_at}
 use Rattle.object_rows.specs.Code.Replies.{with_own}
 
 pub length_own : (number : ℕ) (calls : List Call) (replies own : List Reply) → length replies ≡ length calls → length (with_own number calls replies own) ≡ length calls
@@ -62,20 +64,43 @@ others_kept number other (call ∷ calls) (reply ∷ replies) own differ = step 
   step false true is is' rest = rw is' (ap (λ l. reply ∷ l) (rest own))
   step false false is is' rest = rw is' (rest own)
 
-module _ (number place next asked : ℕ) (calls : List Call) (replies own : List Reply) (call : Call) (reply : Reply) (is : asked ≡ number_of call.op)
-    (calls_are : drop place calls ≡ call ∷ drop (place + 1) calls) (replies_are : drop place replies ≡ reply ∷ drop (place + 1) replies) where
-  -- one more call, of the number or not
-  pub own_step : (now : List Reply) → asked ≡ number → take (place + 1) now ≡ take place replies ++ slice_index_or own next reply ∷ [] → drop (place + 1) now ≡ drop (place + 1) replies
-      → take (place + 1) now ++ with_own number (drop (place + 1) calls) (drop (place + 1) now) (drop (next + 1) own) ≡ take place replies ++ with_own number (drop place calls) (drop place replies) (drop next own)
-  own_step now same front back =
-      let here : (number_of call.op == number) ≡ true = grind (arith, nat_tests) in
-      let none : next + 0 ≡ next = omega arith in
-      let first : slice_index_or (drop next own) 0 reply ≡ slice_index_or own next reply = get_or-drop next own 0 reply ∙ ap (λ n. slice_index_or own n reply) none in
-      let more : drop 1 (drop next own) ≡ drop (next + 1) own = drop-drop 1 next own in
-      rw (calls_are, replies_are, here, front, back, first, more) (append_assoc (take place replies) (slice_index_or own next reply ∷ []) (with_own number (drop (place + 1) calls) (drop (place + 1) replies) (drop (next + 1) own)))
+-- the replies put at the places of the calls that are dealt to a number
+set_there : (front later : List Reply) (was now : Reply) → slice_set (front ++ was ∷ later) (length front) now ≡ (front ++ now ∷ []) ++ later
+set_there [] later was now = refl
+set_there (reply ∷ front) later was now = ap (λ l. reply ∷ l) (set_there front later was now)
 
-  pub other_step : (asked ≡ number → ⊥) → take (place + 1) replies ≡ take place replies ++ reply ∷ []
-      → take (place + 1) replies ++ with_own number (drop (place + 1) calls) (drop (place + 1) replies) (drop next own) ≡ take place replies ++ with_own number (drop place calls) (drop place replies) (drop next own)
-  other_step differ front =
-      let here : (number_of call.op == number) ≡ false = grind (arith, nat_tests) in
-      rw (calls_are, replies_are, here, front) (append_assoc (take place replies) (reply ∷ []) (with_own number (drop (place + 1) calls) (drop (place + 1) replies) (drop next own)))
+put_from : (number first : ℕ) (calls : List Call) (front replies own : List Reply) → first ≡ length front → length replies ≡ length calls → length own ≡ length (calls_at number calls)
+    → put_at (dealt_at number first calls) own (front ++ replies) ≡ front ++ with_own number calls replies own
+put_from number first [] front replies own at count many = refl
+put_from number first (call ∷ calls) front [] own at count many = absurd (omega (arith, count))
+put_from number first (call ∷ calls) front (reply ∷ replies) own at count many =
+    step (number_of call.op == number) own many (λ now own many. put_from number (first + 1) calls (front ++ now ∷ []) replies own (let long = length-append front (now ∷ []) in omega (arith, at, long)) (omega (arith, count)) many) where
+      step : (b : Bool) (own : List Reply) → length own ≡ length (cond b (call ∷ calls_at number calls) (calls_at number calls))
+          → ((now : Reply) (own : List Reply) → length own ≡ length (calls_at number calls) → put_at (dealt_at number (first + 1) calls) own ((front ++ now ∷ []) ++ replies) ≡ (front ++ now ∷ []) ++ with_own number calls replies own)
+          → put_at (cond b (record { place = first; call = call } ∷ dealt_at number (first + 1) calls) (dealt_at number (first + 1) calls)) own (front ++ reply ∷ replies)
+          ≡ front ++ cond b (slice_index_or own 0 reply ∷ with_own number calls replies (drop 1 own)) (reply ∷ with_own number calls replies own)
+      step true [] many rest = absurd (omega (arith, many))
+      step true (now ∷ own) many rest =
+          ap (λ l. put_at (dealt_at number (first + 1) calls) own l) (ap (λ n. slice_set (front ++ reply ∷ replies) n now) at ∙ set_there front replies reply now)
+          ∙ rest now own (omega (arith, many)) ∙ append_assoc front (now ∷ []) (with_own number calls replies own)
+      step false own many rest =
+          ap (λ l. put_at (dealt_at number (first + 1) calls) own l) (sym (append_assoc front (reply ∷ []) replies))
+          ∙ rest reply own many ∙ append_assoc front (reply ∷ []) (with_own number calls replies own)
+
+pub put_own : (number : ℕ) (calls : List Call) (replies own : List Reply) → length replies ≡ length calls → length own ≡ length (calls_at number calls)
+    → put_at (dealt_at number 0 calls) own replies ≡ with_own number calls replies own
+put_own number calls replies own count many = put_from number 0 calls [] replies own refl count many
+
+-- one more reply
+pub put_step : (first index : ℕ) (dealt : List Dealt) (one : Dealt) (own : List Reply) (reply : Reply) (replies : List Reply)
+    → drop (first + index) dealt ≡ one ∷ drop (first + index + 1) dealt → drop index own ≡ reply ∷ drop (index + 1) own
+    → put_at (drop (first + (index + 1)) dealt) (drop (index + 1) own) (slice_set replies one.place reply) ≡ put_at (drop (first + index) dealt) (drop index own) replies
+put_step first index dealt one own reply replies dealt_are own_are =
+    let next : first + (index + 1) ≡ first + index + 1 = omega arith in
+    rw (dealt_are, own_are, next) refl
+
+pub put_end : (index : ℕ) (dealt : List Dealt) (own replies : List Reply) → length own ≤ index → put_at dealt (drop index own) replies ≡ replies
+put_end index dealt own replies end = ap (λ l. put_at dealt l replies) (drop_all index own end) ∙ none dealt where
+  none : (dealt : List Dealt) → put_at dealt [] replies ≡ replies
+  none [] = refl
+  none (one ∷ dealt) = refl

@@ -8,7 +8,8 @@ ghost use Rattle.object_rows.specs.Contexts.{IsOpenFor, RowContext, IsRowContext
 ghost use Rattle.object_rows.specs.Code.Closing.{ClosesOne};
 
 use crate::by_number::ByNumber;
-use crate::replies::{empty_replies, put_own};
+use crate::dealt::deal;
+use crate::replies::{empty_replies, put_last};
 use crate::row::{Called, Row};
 use crate::row_list::RowList;
 use crate::rows::take_lasts;
@@ -76,11 +77,11 @@ pub fn close_row<T: Batched>(
     }
     let mut rows = outs.into_rows(alloc)?;
     let mut replies = empty_replies(alloc, calls)?;
+    let mut dealt = deal(alloc, calls)?;
     while let Some(called) = row.called.pop() {
-        let number = called.number;
         let own = take_lasts(alloc, &mut rows, called.count)?;
         let told = close_one(alloc, &mut row.closed, called, own)?;
-        put_own(&mut replies, calls, number, &told);
+        put_last(&mut replies, &mut dealt, &told);
     }
     Ok(replies)
 }

@@ -8,11 +8,10 @@
 #![tactic(auto)]
 
 pub mod by_number;
-mod calls;
 pub mod close;
+mod dealt;
 pub mod fresh;
 pub mod members;
-mod numbers;
 pub mod open;
 mod replies;
 pub mod row;

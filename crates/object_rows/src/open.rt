@@ -8,9 +8,8 @@ ghost use Rattle.object_rows.specs.Code.Opening.{OpensOne};
 ghost use Rattle.object_rows.specs.Cuts.{AreCut};
 
 use crate::by_number::ByNumber;
-use crate::calls::{are_all_at, find_calls};
+use crate::dealt::{are_all_at, deal, take_leading};
 use crate::fresh::Fresh;
-use crate::numbers::numbers_of;
 use crate::row::{Called, Row};
 use crate::row_list::RowList;
 use crate::rows::add_to_rows;
@@ -58,27 +57,32 @@ fn open_one<T: Batched, F: Fresh<T>>(
     Ok(ins)
 }
 
-/// Opens the structure of one number for its calls among those of several, and returns its pieces. Its calls replace
-/// the content of `own`.
-fn open_among<T: Batched, F: Fresh<T>>(
+/// Opens the structures that the calls call, number after number.
+fn open_several<T: Batched, F: Fresh<T>>(
     alloc: Global,
     row: &mut Row<T, T::Rest>,
-    number: u32,
     calls: &[Call],
-    own: &mut Vec<Call>,
-) -> Result<Vec<T::In>, AllocError>
+) -> Result<RowList<T::In>, AllocError>
     requires batch { AreOneBatch calls.now }
-    requires some { 0 < length (calls_at number calls.now) }
-    requires may { T.may_serve (store_of T.content row.old.closed number) (calls_at number calls.now) }
-    ensures count { IfOk result (λ v. (1 ≤ length v.items) × (length v.items ≤ T.MOST)) }
-    ensures cut { IfOk result (λ v.
-        T.cut (store_of T.content row.old.closed number) (calls_at number calls.now) v.items) }
-    ensures opens { IfOk result (λ v.
-        OpensOne T.content T.is_context_of row.old row.new number calls.now v.items) }
+    requires closed { row.old.called.items ≡ [] }
+    requires may { (number : ℕ) → T.may_serve (store_of T.content row.old.closed number) (calls_at number calls.now) }
+    ensures most { IfOk result (λ v. length v.items ≤ T.MOST) }
+    ensures some { IfOk result (λ v. 1 ≤ length v.items) }
+    ensures cut { IfOk result (λ v. AreCut T.cut (store_of T.content row.old.closed) calls.now v.items) }
+    ensures context { IfOk result (λ v. IsRowContextOf T.content T.is_context_of row.new
+        (record { before = store_of T.content row.old.closed; calls = calls.now; ins = v.items })) }
 {
-    find_calls(calls, number, own)?;
-    let ins = open_one::<T, F>(alloc, row, number, own.as_slice())?;
-    Ok(ins)
+    let dealt = deal(alloc, calls)?;
+    let mut own = Vec::with_capacity(alloc, calls.len())?;
+    let mut rows = Vec::new(alloc);
+    let mut from = 0;
+    while from < dealt.len() {
+        let number = dealt[from].call.op.number();
+        from = take_leading(&dealt, from, number, &mut own)?;
+        let ins = open_one::<T, F>(alloc, row, number, own.as_slice())?;
+        add_to_rows(alloc, &mut rows, ins)?;
+    }
+    Ok(RowList::of_rows(alloc, rows))
 }
 
 /// Opens the structures that the calls call, each for its own, and returns the pieces of each place. A structure is
@@ -105,12 +109,5 @@ pub fn open_row<T: Batched, F: Fresh<T>>(
         let pieces = open_one::<T, F>(alloc, row, first, calls)?;
         return Ok(RowList::of_ones(alloc, pieces));
     }
-    let numbers = numbers_of(alloc, calls)?;
-    let mut own = Vec::with_capacity(alloc, calls.len())?;
-    let mut rows = Vec::new(alloc);
-    for place in 0..numbers.len() {
-        let ins = open_among::<T, F>(alloc, row, numbers[place], calls, &mut own)?;
-        add_to_rows(alloc, &mut rows, ins)?;
-    }
-    Ok(RowList::of_rows(alloc, rows))
+    open_several::<T, F>(alloc, row, calls)
 }

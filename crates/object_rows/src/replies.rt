@@ -1,7 +1,9 @@
 //! Replies at the places of their calls.
-ghost use Rattle.std.specs.Prelude.{◌≡◌, length, slice_index_or, IfOk};
-ghost use Rattle.object_rows.specs.Code.Replies.{with_own};
+ghost use Rattle.std.specs.Prelude.{◌≡◌, ◌≤◌, ◌<◌, ◌-◌, length, take, drop, IfOk};
+ghost use Rattle.std.specs.List.{AllByRecursion};
+ghost use Rattle.object_rows.specs.Code.Dealt.{put_at};
 
+use crate::dealt::Dealt;
 use seq_objects::{Call, Reply};
 use std::alloc::{AllocError, Global};
 
@@ -16,27 +18,17 @@ pub(crate) fn empty_replies(alloc: Global, calls: &[Call]) -> Result<Vec<Reply>,
     Ok(replies)
 }
 
-/// The reply at an index; the given one where there is none.
-fn reply_or(replies: &[Reply], place: usize, reply: Reply) -> Reply
-    ensures { result ≡ slice_index_or replies.now place reply }
+/// Puts the replies to the calls of the last number at their places, and takes these calls out.
+pub(crate) fn put_last(replies: &mut Vec<Reply>, dealt: &mut Vec<Dealt>, own: &[Reply])
+    requires count { length own.now ≤ length dealt.old.items }
+    requires places { AllByRecursion (λ one. one.place < length replies.old.items) dealt.old.items }
+    ensures put { replies.new.items
+        ≡ put_at (drop (length dealt.old.items - length own.now) dealt.old.items) own.now replies.old.items }
+    ensures left { dealt.new.items ≡ take (length dealt.old.items - length own.now) dealt.old.items }
 {
-    if place < replies.len() {
-        replies[place]
-    } else {
-        reply
+    let first = dealt.len() - own.len();
+    for index in 0..own.len() {
+        replies[dealt[first + index].place] = own[index];
     }
-}
-
-/// Puts the replies to the calls of one number at their places.
-pub(crate) fn put_own(replies: &mut Vec<Reply>, calls: &[Call], number: u32, own: &[Reply])
-    requires { length replies.old.items ≡ length calls.now }
-    ensures { replies.new.items ≡ with_own number calls.now replies.old.items own.now }
-{
-    let mut next = 0;
-    for place in 0..calls.len() {
-        if calls[place].op.number() == number {
-            replies[place] = reply_or(own, next, replies[place]);
-            next += 1;
-        }
-    }
+    dealt.truncate(first);
 }

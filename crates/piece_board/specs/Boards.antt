@@ -1,5 +1,6 @@
 -- What contracts see of a board, its desks and their claims, and which of them belong together.
 use Rattle.std.specs.Prelude.{ℕ, ◌≡◌, ◌<◌, ◌+◌, ◌*◌, List, length, slice_index_or, Option}
+use Rattle.limits.specs.declared.TheConstants.{PLACES}
 use Rattle.piece_board.specs.declared.work.Work.{Ghosts}
 use Rattle.piece_board.specs.declared.board.Board.{Board}
 use Rattle.piece_board.specs.declared.board.Desk.{Desk}
@@ -33,7 +34,7 @@ module _ {W I O : Type 0} {g : Ghosts W I O} where
 
   -- what a call with this desk finds in the word of place `k`, where that is not what it looks for
   unfoldable pub IsMissOf : Board W I O → Desk W I O g → ℕ → Miss → Type 0
-  IsMissOf b d k miss = IsMissAt g.meets (56 * workers_of b) (view d) k miss
+  IsMissOf b d k miss = IsMissAt g.meets (PLACES * workers_of b) (view d) k miss
 
   -- the input at the claim's place, if the desk claimed it and has not finished it
   abbrev pub claimed_by : Claim W → Desk W I O g → Option I

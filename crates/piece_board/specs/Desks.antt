@@ -1,11 +1,12 @@
 -- What contracts see of a desk, and the effect of each operation.
 use Rattle.std.specs.Prelude.{ℕ, ◌+◌, ◌*◌, [], ◌∷◌, ◌++◌, Option}
+use Rattle.limits.specs.declared.TheConstants.{PLACES}
 use Rattle.piece_board.specs.declared.view.DeskView.{DeskView}
 use Rattle.piece_board.specs.Entries.{entry_at, without}
 
--- the number of a place on the board: each row has 56 places
+-- the number of a place on the board: each row has `PLACES` places
 abbrev pub number_of : ℕ → ℕ → ℕ
-number_of row place = 56 * row + place
+number_of row place = PLACES * row + place
 
 module _ {I : Type 0} where
   -- the initial desk of a row

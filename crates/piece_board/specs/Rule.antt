@@ -4,6 +4,7 @@ use Rattle.std.specs.List.{sum_by}
 use mathlib.Core.Option.{some}
 use lib.ListN.{get_elem?}
 use Rattle.atomic_table.specs.Table.{State}
+use Rattle.limits.specs.declared.TheConstants.{PLACES}
 use Rattle.piece_board.specs.declared.view.Content.{Content}
 use Rattle.piece_board.specs.declared.view.Content.TheVariants.{Nothing, Input, Output}
 use Rattle.piece_board.specs.declared.view.View.{View}
@@ -72,9 +73,9 @@ pub record ObeysRule {I O : Type 0} (meets : I → O → Type 0) (s : State (Con
   pub seated : (k : ℕ) → (owner k < length s.views) × (claimer k < length s.views)
   pub places : (k : ℕ) → k < length s.homes → PlaceStands meets s k (last k) (owner k) (claimer k)
   pub owned : (seat : ℕ) (v : View I) (k : ℕ) → get_elem? s.views seat ≡ some v
-      → 56 * v.desk.row ≤ k → k < 56 * v.end_row
+      → PLACES * v.desk.row ≤ k → k < PLACES * v.end_row
       → (owner k ≡ seat)
-      × IsKnown (slice_index s.words k) (last k) (entry_at (k - 56 * v.desk.row) v.desk.posted)
+      × IsKnown (slice_index s.words k) (last k) (entry_at (k - PLACES * v.desk.row) v.desk.posted)
   pub claims : (seat : ℕ) (v : View I) (k : ℕ) (x : I) → get_elem? s.views seat ≡ some v
       → entry_at k v.desk.claims ≡ Some x
       → (claimer k ≡ seat) × (slice_index s.words k ≡ 2) × (last k ≡ Some x)

@@ -2,6 +2,7 @@
 -- the word, and the seat after.
 use Rattle.std.specs.Prelude.{ℕ, ◌≡◌, ◌≢◌, ◌+◌, ◌*◌, ◌<◌, ◌≤◌, [], ◌∷◌, ◌++◌, None, Some}
 use Rattle.atomic_table.specs.Table.{Me, Step, rest}
+use Rattle.limits.specs.declared.TheConstants.{PLACES}
 use Rattle.piece_board.specs.declared.view.Content.{Content}
 use Rattle.piece_board.specs.declared.view.Content.TheVariants.{Nothing, Input, Output}
 use Rattle.piece_board.specs.declared.view.DeskView.{DeskView}
@@ -51,7 +52,7 @@ module _ {I O : Type 0} where
 
   -- if the place was open (1), the seat has claimed it and has its slot with the input in hand; otherwise it is refused
   abbrev pub Claims : (I → O → Type 0) → Told I O
-  Claims meets st m found n = (row place : ℕ) → place < 56 → st.word ≡ number_of row place
+  Claims meets st m found n = (row place : ℕ) → place < PLACES → st.word ≡ number_of row place
       → (found ≡ 1 → (x : I)
       × (n ≡ (then_desk_with st.word (after_claim row place x) m.0, (st.word, Input x) ∷ m.1)))
       × (found ≢ 1 → Misses meets (after_refusal row place) st m found n)
@@ -59,10 +60,10 @@ module _ {I O : Type 0} where
   -- the operands of the step encode a row and a place that the board, which has `slots` places, does not have
   abbrev pub Strays : (I → O → Type 0) → Told I O
   Strays meets st m found n = (row place : ℕ) → st.first ≡ 4 + row → st.second ≡ place
-      → (56 * row < st.slots → 56 ≤ place) → Misses meets (after_refusal row place) st m found n
+      → (PLACES * row < st.slots → PLACES ≤ place) → Misses meets (after_refusal row place) st m found n
 
   abbrev pub Finishes : Told I O
-  Finishes st m found n = (row place : ℕ) → place < 56 → st.word ≡ number_of row place
+  Finishes st m found n = (row place : ℕ) → place < PLACES → st.word ≡ number_of row place
       → n ≡ (then_desk st.word (after_finish row place) m.0, rest m.1)
 
   -- if the place of the seat's own row was full (3), it is free, and its slot is in hand with a result that meets the

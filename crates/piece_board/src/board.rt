@@ -1,5 +1,6 @@
 //! The board, its desks and their claims.
-ghost use Rattle.std.specs.Prelude.{◌≡◌, ◌+◌, ◌*◌, ◌≤◌, []};
+ghost use Rattle.std.specs.Prelude.{◌≡◌, ◌+◌, ◌*◌, ◌<◌, ◌≤◌, []};
+ghost use Rattle.limits.specs.declared.TheConstants.{MOST_WORKERS, PLACES};
 
 mod calls;
 mod opening;
@@ -11,12 +12,13 @@ use atomic_table::{Seat, Table};
 use std::alloc::Global;
 use std::marker::PhantomData;
 
-/// A board with a row of 56 places for each of 1 to 32 workers. All threads share it.
+/// A board with a row of `PLACES` places for each worker, of which there are at most `MOST_WORKERS`. All threads share
+/// it.
 pub struct Board<W: Work> {
     pub(crate) table: Table<Content<W::In, W::Out>, View<W::In>, u64, BoardRule<W>, Global>,
     pub(crate) rows: u32,
-    ghost places: { (table.shared.table_id.words ≡ 56 * rows) × (table.shared.table_id.slots ≡ 56 * rows) },
-    ghost some: { (1 ≤ rows) × (rows ≤ 32) },
+    ghost places: { (table.shared.table_id.words ≡ PLACES * rows) × (table.shared.table_id.slots ≡ PLACES * rows) },
+    ghost some: { (1 ≤ rows) × (rows ≤ MOST_WORKERS) },
 }
 
 impl<W: Work> Drop for Board<W> {
@@ -46,7 +48,7 @@ pub struct Claim<W> {
     pub(crate) row: u32,
     pub(crate) place: u32,
     pub(crate) work: PhantomData<W>,
-    ghost within: { place ≤ 55 },
+    ghost within: { place < PLACES },
 }
 
 impl<W> Drop for Claim<W> {

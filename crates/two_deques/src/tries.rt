@@ -1,5 +1,6 @@
 //! The round-robin choice of steal victims.
 ghost use Rattle.std.specs.Prelude.{◌≡◌, ◌≢◌, ◌<◌, ◌≤◌, ◌↔◌, IfSome, IfNone, IsNone};
+ghost use Rattle.limits.specs.declared.TheConstants.{MOST_WORKERS};
 ghost use Rattle.two_deques.specs.Tries.{first_tries, try_of, after_try};
 
 use std::marker::Model;
@@ -29,13 +30,14 @@ pub struct Tries {
 
 impl Model for Tries {
     ghost use Rattle.std.specs.Prelude.{◌<◌, ◌≤◌, ◌*◌, ◌-◌};
+    ghost use Rattle.limits.specs.declared.TheConstants.{MOST_WORKERS};
     ghost use Rattle.two_deques.specs.Tries.{TriesView};
 
     ghost Value = { TriesView };
 
     ghost view = { λ t. record { worker = t.worker; workers = t.workers; next = t.next } };
 
-    ghost invariant = { λ t. (t.worker < t.workers) × (t.workers ≤ 32)
+    ghost invariant = { λ t. (t.worker < t.workers) × (t.workers ≤ MOST_WORKERS)
         × (1 < t.workers → t.next < 2 * (t.workers - 1)) };
 }
 
@@ -44,7 +46,7 @@ impl Tries {
     ///
     /// Memory: none.
     pub fn new(me: u32, workers: u32) -> Tries
-        requires workers { (1 ≤ workers) × (workers ≤ 32) }
+        requires workers { (1 ≤ workers) × (workers ≤ MOST_WORKERS) }
         requires me { me < workers }
         ensures { result ≡ first_tries me workers }
     {

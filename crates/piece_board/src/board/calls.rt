@@ -1,6 +1,7 @@
 //! The four operations on a board: post, claim, finish and collect.
 ghost use Rattle.std.specs.Prelude.{◌≡◌, ◌≢◌, ◌<◌, ◌≤◌, None, Some};
 ghost use Rattle.std.specs.Prelude.{IfNone, IfSome, IsSomeAnd, MatchBool};
+ghost use Rattle.limits.specs.declared.TheConstants.{MOST_WORKERS};
 ghost use Rattle.piece_board.specs.Desks.{number_of, posted_at, after_post, after_claim};
 ghost use Rattle.piece_board.specs.Desks.{after_refusal, after_finish, after_collect};
 ghost use Rattle.piece_board.specs.Desks.{after_empty_collect};
@@ -13,15 +14,13 @@ use crate::board::{Board, Claim, Desk};
 use crate::rule::{Claimed, Collected, Finished, Posted, PutBack, Strayed, Taken};
 use crate::view::Content;
 use crate::work::Work;
+use limits::PLACES;
 use std::marker::PhantomData;
-
-/// The number of places of a row.
-const PLACES: u32 = 56;
 
 /// The index of a place among the words and slots of the table.
 fn number_of(row: u32, place: u32) -> usize
-    requires row { row < 32 }
-    requires place { place < 56 }
+    requires row { row < MOST_WORKERS }
+    requires place { place < PLACES }
     ensures { result ≡ number_of row place }
 {
     (PLACES * row + place) as usize
@@ -41,8 +40,8 @@ impl<W: Work> Desk<W> {
 impl<W: Work> Board<W> {
     /// Whether the board has place `place` of row `row`.
     fn has(&self, row: u32, place: u32) -> bool
-        ensures { MatchBool result ((row < workers_of self.now) × (place < 56))
-            (row < workers_of self.now → 56 ≤ place) }
+        ensures { MatchBool result ((row < workers_of self.now) × (place < PLACES))
+            (row < workers_of self.now → PLACES ≤ place) }
     {
         row < self.rows && place < PLACES
     }
@@ -50,7 +49,7 @@ impl<W: Work> Board<W> {
     /// Records a refused claim outside the board, by a compare-exchange that always fails: all words are below 4.
     fn refuse(&self, desk: &mut Desk<W>, row: u32, place: u32)
         requires desk { IsDeskOf self.now desk.old }
-        requires outside { row < workers_of self.now → 56 ≤ place }
+        requires outside { row < workers_of self.now → PLACES ≤ place }
         ensures desk { IsDeskOf self.now desk.new }
         ensures refused { (miss : Miss) × IsMissOf self.now desk.old 0 miss
             × (view desk.new ≡ with_miss miss (after_refusal row place) (view desk.old)) }
@@ -66,7 +65,7 @@ impl<W: Work> Board<W> {
     /// Memory: none.
     pub fn post(&self, desk: &mut Desk<W>, i: u32, input: W::In)
         requires desk { IsDeskOf self.now desk.old }
-        requires place { i < 56 }
+        requires place { i < PLACES }
         requires free { posted_at i (desk_view desk.old) ≡ None }
         ensures desk { IsDeskOf self.now desk.new }
         ensures posted { desk_view desk.new ≡ after_post i input (desk_view desk.old) }
@@ -96,9 +95,9 @@ impl<W: Work> Board<W> {
         ensures none { IfNone result
             (desk_view desk.new ≡ after_refusal row i (desk_view desk.old)) }
         ensures missed { IfNone result ((miss : Miss)
-            × ((row < workers_of self.now → i < 56 → (miss.found ≢ 1)
+            × ((row < workers_of self.now → i < PLACES → (miss.found ≢ 1)
             × IsMissOf self.now desk.old (number_of row i) miss)
-            × ((row < workers_of self.now → 56 ≤ i) → IsMissOf self.now desk.old 0 miss))
+            × ((row < workers_of self.now → PLACES ≤ i) → IsMissOf self.now desk.old 0 miss))
             × (view desk.new ≡ with_miss miss (after_refusal row i) (view desk.old))) }
     {
         if !self.has(row, i) {
@@ -149,7 +148,7 @@ impl<W: Work> Board<W> {
     /// Memory: none.
     pub fn collect(&self, desk: &mut Desk<W>, i: u32) -> Option<W::Out>
         requires desk { IsDeskOf self.now desk.old }
-        requires place { i < 56 }
+        requires place { i < PLACES }
         ensures desk { IsDeskOf self.now desk.new }
         ensures some { IfSome result (λ _.
             desk_view desk.new ≡ after_collect i (desk_view desk.old)) }

@@ -1,5 +1,6 @@
 //! The construction of a board and its desks.
 ghost use Rattle.std.specs.Prelude.{◌≡◌, ◌≤◌, [], IfOk, replicate};
+ghost use Rattle.limits.specs.declared.TheConstants.{MOST_WORKERS};
 ghost use Rattle.piece_board.specs.Rule.{first_view};
 ghost use Rattle.piece_board.specs.Boards.{workers_of, AreDesks};
 
@@ -8,6 +9,7 @@ use crate::rule::RowCut;
 use crate::view::{Content, View};
 use crate::work::Work;
 use atomic_table::{Refused, Seat, Table};
+use limits::PLACES;
 use std::alloc::{AllocError, Global};
 
 /// The initial slots of `count` places.
@@ -46,11 +48,11 @@ fn desks_of<W: Work>(
 impl<W: Work> Board<W> {
     /// A board with a row of free places for each worker, and each worker's desk.
     pub fn make(alloc: Global, workers: u32) -> Result<(Board<W>, Vec<Desk<W>>), AllocError>
-        requires workers { (1 ≤ workers) × (workers ≤ 32) }
+        requires workers { (1 ≤ workers) × (workers ≤ MOST_WORKERS) }
         ensures workers { IfOk result (λ made. workers_of made.0 ≡ workers) }
         ensures desks { IfOk result (λ made. AreDesks made.0 made.1.items) }
     {
-        let count = 56 * workers as usize;
+        let count = PLACES as usize * workers as usize;
         let words = Vec::from_elem(alloc, 0u64, count)?;
         let slots = empty_places(alloc, count)?;
         let (table, seat) = match Table::new(alloc, &words, slots, &u64::from(workers)) {

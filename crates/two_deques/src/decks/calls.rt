@@ -1,5 +1,6 @@
 //! The making of the deques, and the operations on them.
 ghost use Rattle.std.specs.Prelude.{◌≡◌, ◌≢◌, ◌<◌, ◌≤◌, length, All, IfOk, IfErr, IfNone, IfSome, OnOk};
+ghost use Rattle.limits.specs.declared.TheConstants.{MOST_WORKERS};
 ghost use Rattle.two_deques.specs.Ends.{after_push, with_newest, after_empty_pop, after_steal};
 ghost use Rattle.two_deques.specs.Ends.{after_failed_steal, WasEmpty, HadAtMostOne};
 ghost use Rattle.two_deques.specs.Hands.{held, workers_of, core_room_of, batch_room_of};
@@ -23,7 +24,7 @@ impl Decks {
         core_room: u32,
         batch_room: u32,
     ) -> Result<(Decks, Vec<Hand>), AllocError>
-        requires workers { (1 ≤ workers) × (workers ≤ 32) }
+        requires workers { (1 ≤ workers) × (workers ≤ MOST_WORKERS) }
         requires rooms { (core_room ≤ 160000) × (batch_room ≤ 160000) }
         ensures workers { IfOk result (λ made. workers_of made.0 ≡ workers) }
         ensures rooms { IfOk result (λ made. (core_room_of made.0 ≡ core_room)
@@ -50,7 +51,7 @@ impl Decks {
         rooms: Rooms,
         pairs: Vec<DeckPair>,
     ) -> Result<(Decks, Vec<Hand>), AllocError>
-        requires workers { length pairs.items ≤ 32 }
+        requires workers { length pairs.items ≤ MOST_WORKERS }
         requires pairs { All (IsNewPair rooms) pairs.items }
         ensures workers { IfOk result (λ made. workers_of made.0 ≡ length pairs.items) }
         ensures rooms { IfOk result (λ made. (core_room_of made.0 ≡ rooms.core)

@@ -1,5 +1,6 @@
 //! The deques of all workers and the initial hands, from the workers' pairs of deques.
 ghost use Rattle.std.specs.Prelude.{◌≡◌, ◌≤◌, length, All, IfOk};
+ghost use Rattle.limits.specs.declared.TheConstants.{MOST_WORKERS};
 ghost use Rattle.two_deques.specs.Hands.{workers_of, core_room_of, batch_room_of, AreHands};
 ghost use Rattle.two_deques.specs.Pairs.{IsNewPair, AreDecksOf};
 ghost use Rattle.two_deques.specs.Code.Opening.{AreMade};
@@ -65,7 +66,7 @@ pub(crate) fn hands_of(
         decks.now.core.items core.items }
     requires batch { AreMade (workers_of decks.now) (workers_of decks.now) (batch_room_of decks.now)
         decks.now.batch.items batch.items }
-    requires few { workers_of decks.now ≤ 32 }
+    requires few { workers_of decks.now ≤ MOST_WORKERS }
     ensures { IfOk result (λ hands. AreHands decks.now hands.items) }
 {
     let mut hands = Vec::new(alloc);

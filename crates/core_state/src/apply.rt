@@ -3,7 +3,7 @@ ghost use Rattle.std.specs.Prelude.{◌≡◌, ◌<◌, ℕ, IfOk};
 ghost use Rattle.core_model.specs.Settings.{job_of};
 ghost use Rattle.core_model.specs.Events.{Needs, Does};
 ghost use Rattle.core_model.specs.Ranges.{IsInRange};
-ghost use Rattle.core_state.specs.Code.Gate.{IsOfGate};
+ghost use Rattle.core_state.specs.Code.CallEvents.{IsCallEvent};
 ghost use Rattle.ready_lists.specs.Ends.{IsAtOneEnd};
 ghost use Rattle.core_state.specs.Abstraction.{state_of, ready_of};
 ghost use Rattle.core_state.specs.Code.Sizes.{SameSizes};
@@ -11,8 +11,8 @@ ghost use Rattle.core_model.specs.Lists.{ready_after};
 ghost use Rattle.core_model.specs.declared.event.Event.TheVariants.{Claim};
 ghost use Rattle.core_state.specs.Code.Representation.{Represents};
 
-mod gate;
-mod job;
+mod calls;
+mod nodes;
 mod publish;
 
 use crate::state::State;
@@ -22,14 +22,14 @@ use std::alloc::{AllocError, Global};
 impl State {
     /// Applies an event of a call or of the flag. After an `AllocError` the event may be half done.
     #[inline(always)]
-    fn apply_to_gate(
+    fn apply_to_calls(
         &mut self,
         alloc: Global,
         setting: &Setting,
         worker: u32,
         event: Event,
     ) -> Result<(), AllocError>
-        requires kind { IsOfGate event }
+        requires kind { IsCallEvent event }
         requires fits { Represents setting.now self.old }
         requires worker_in { worker < setting.now.workers }
         requires in_range { IsInRange (job_of setting.now).plan.count setting.now.workers event }
@@ -94,7 +94,7 @@ impl State {
             Event::ArriveSecond { parent, .. } => {
                 self.arrive(worker, parent, 2, Task::Handed(parent));
             }
-            _ => self.apply_to_gate(alloc, setting, worker, event)?,
+            _ => self.apply_to_calls(alloc, setting, worker, event)?,
         }
         Ok(())
     }

@@ -5,8 +5,8 @@ ghost use Rattle.core_model.specs.Choice.{choice, choice_by, choice_free};
 ghost use Rattle.core_state.specs.Abstraction.{state_of, core_state_of};
 ghost use Rattle.core_state.specs.Code.Lookups.{CanChoose, IsWorkOf};
 
-mod gate;
-mod job;
+mod calls;
+mod nodes;
 
 use crate::state::State;
 use core_model::{Event, Setting, Status, Task};

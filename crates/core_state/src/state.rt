@@ -25,7 +25,7 @@ pub struct State {
     pub values: Vec<Option<u64>>,
     /// The task of each worker.
     pub tasks: Vec<Task>,
-    /// The status of each worker at the gate.
+    /// The status of each worker, by its call.
     pub statuses: Vec<Status>,
     /// What each worker knows of the call of the leaf that it has started.
     pub calls: Vec<CallState>,

@@ -1,4 +1,4 @@
-//! The writes of the gate's events: post, win, take, answer, release and leave.
+//! The writes of the events of calls and of the flag: post, win, take, answer, release and leave.
 ghost use Rattle.std.specs.Prelude.{◌≡◌, ◌<◌, length, None, Some, IfSome, IsSome, if◌then◌else◌};
 ghost use Rattle.core_model.specs.State.{put};
 ghost use Rattle.core_state.specs.Abstraction.{state_of, ready_of};

@@ -1,5 +1,5 @@
 use Rattle.core_state.proofs.ChoiceLemmas.Allowed.{held_by_needs, take_room}
-use Rattle.core_state.proofs.state.State.apply_to_gate.Goals as goal
+use Rattle.core_state.proofs.state.State.apply_to_calls.Goals as goal
 
 pub take-requires-clause-room : goal.take-requires-clause-room
 take-requires-clause-room c = take_room _ _ _ c.args.worker c.requires.fits c.in-Take.other (rw c.in-Take.is at c.requires.needs)

@@ -3,7 +3,7 @@
 use crate::runs::{Ran, run_text};
 use crate::workers::Made;
 use std::test::Fail;
-use test_gates::AtWin;
+use test_pauses::AtWin;
 use worker_turns::Called;
 
 /// What the call of a leaf was answered, where it is among these.
@@ -32,13 +32,13 @@ fn a_call_beside_a_launch_is_at_most_one_batch_later_than_told(
     rt: HostRuntime,
 ) -> Result<(), Fail> {
     let job = b"par { counter add 1 counter add 2 }";
-    let gate = AtWin::new();
-    let ran = run_text(&rt, rt.alloc(), job, usize::MAX, &gate)?.expect(&rt, "a report");
+    let pause = AtWin::new();
+    let ran = run_text(&rt, rt.alloc(), job, usize::MAX, &pause)?.expect(&rt, "a report");
     assert!(rt;
-        gate.wins.count() > 0
-            && gate.wins.missed() == 0
-            && gate.posts.was_kept()
-            && is_in_first_two(gate.second_leaf(), &ran)
+        pause.wins.count() > 0
+            && pause.wins.missed() == 0
+            && pause.posts.was_kept()
+            && is_in_first_two(pause.second_leaf(), &ran)
     );
     Ok(())
 }

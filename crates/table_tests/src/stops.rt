@@ -9,7 +9,7 @@ use std::alloc::{AllocError, Global};
 use std::sync::Wait;
 use std::test::Fail;
 use std::thread::Threads;
-use test_gates::{AtPieces, Meeting};
+use test_pauses::{AtPieces, Meeting};
 use worker_turns::{Crew, Stop, free_turn};
 
 /// Whether the turn of a free worker, or its call, ends as stopped once the other worker has set the stop word.
@@ -47,15 +47,15 @@ fn is_stopped_in_its_wait<R: Threads + Wait + Sync>(
     if job.shape().is_none() {
         return Ok(false);
     }
-    let gate = AtPieces {
+    let pause = AtPieces {
         pieces: Meeting::new(),
     };
-    let (crew, mut mes) = Crew::make(alloc, job, 2, &gate)?;
+    let (crew, mut mes) = Crew::make(alloc, job, 2, &pause)?;
     let mut one = mes.remove(1);
     let mut zero = mes.remove(0);
     let (called, left) = work_as_crew(rt, alloc, &crew, &mut zero, &mut one, Plan::LeaveAPiece);
     Ok(
-        gate.pieces.was_kept()
+        pause.pieces.was_kept()
             && matches!(called, Err(Stop::Stopped))
             && matches!(left, Err(Stop::Memory)),
     )

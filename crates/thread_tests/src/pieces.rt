@@ -3,7 +3,7 @@
 use piece_threads::{Pieces, run_pieces};
 use std::alloc::{AllocError, Global};
 use std::test::Fail;
-use test_gates::Meeting;
+use test_pauses::Meeting;
 
 /// A visit of worker 0 or 1 to a meeting.
 #[derive(Drop)]

@@ -8,7 +8,7 @@ use seq_objects::{Act, Op};
 use sp_order::{Job, Shape};
 use std::alloc::{AllocError, Global};
 use std::test::Fail;
-use test_gates::{AtCalls, AtPosts, AtStarts, AtWin, Meeting};
+use test_pauses::{AtCalls, AtPosts, AtStarts, AtWin, Meeting};
 use worker_loop::{run_locked, run_table};
 
 /// The shape of `par { A B C D }`.
@@ -75,46 +75,46 @@ fn batch_of(report: &Report, leaf: u64) -> Option<usize> {
 #[test]
 fn two_workers_start_leaves_at_one_time(rt: HostRuntime) -> Result<(), Fail> {
     let job = four_adds(rt.alloc())?;
-    let gate = AtStarts {
+    let pause = AtStarts {
         starts: Meeting::new(),
     };
-    let report = run_locked(&rt, rt.alloc(), &job, 2, &gate)?;
-    assert!(rt; gate.starts.was_kept() && both_worked(&report));
+    let report = run_locked(&rt, rt.alloc(), &job, 2, &pause)?;
+    assert!(rt; pause.starts.was_kept() && both_worked(&report));
     Ok(())
 }
 
 #[test]
 fn two_workers_of_the_table_start_leaves_at_one_time(rt: HostRuntime) -> Result<(), Fail> {
     let job = four_adds(rt.alloc())?;
-    let gate = AtStarts {
+    let pause = AtStarts {
         starts: Meeting::new(),
     };
-    let report = run_table(&rt, rt.alloc(), &job, 2, &gate)?;
-    assert!(rt; gate.starts.was_kept() && both_worked(&report));
+    let report = run_table(&rt, rt.alloc(), &job, 2, &pause)?;
+    assert!(rt; pause.starts.was_kept() && both_worked(&report));
     Ok(())
 }
 
 #[test]
 fn two_calls_that_are_pending_become_one_batch(rt: HostRuntime) -> Result<(), Fail> {
     let job = four_adds(rt.alloc())?;
-    let gate = AtPosts {
+    let pause = AtPosts {
         posts: Meeting::new(),
     };
-    let report = run_table(&rt, rt.alloc(), &job, 2, &gate)?;
-    assert!(rt; gate.posts.was_kept() && size_of(report.history.batches().first()) == 2);
+    let report = run_table(&rt, rt.alloc(), &job, 2, &pause)?;
+    assert!(rt; pause.posts.was_kept() && size_of(report.history.batches().first()) == 2);
     Ok(())
 }
 
 #[test]
 fn two_workers_run_pieces_of_one_batch_at_one_time(rt: HostRuntime) -> Result<(), Fail> {
     let job = four_takes(rt.alloc())?;
-    let gate = AtCalls::new();
-    let report = run_table(&rt, rt.alloc(), &job, 2, &gate)?;
+    let pause = AtCalls::new();
+    let report = run_table(&rt, rt.alloc(), &job, 2, &pause)?;
     assert!(rt;
-        gate.posts.was_kept()
-            && gate.pieces.was_kept()
+        pause.posts.was_kept()
+            && pause.pieces.was_kept()
             && size_of(report.history.batches().first()) == 2
-            && gate.first_batch_places() == 8
+            && pause.first_batch_places() == 8
     );
     Ok(())
 }
@@ -131,14 +131,14 @@ fn one_worker_makes_a_batch_of_each_call(rt: HostRuntime) -> Result<(), Fail> {
 #[test]
 fn a_call_beside_a_launch_waits_for_two_batches_at_most(rt: HostRuntime) -> Result<(), Fail> {
     let job = four_adds(rt.alloc())?;
-    let gate = AtWin::new();
-    let report = run_table(&rt, rt.alloc(), &job, 2, &gate)?;
+    let pause = AtWin::new();
+    let report = run_table(&rt, rt.alloc(), &job, 2, &pause)?;
     let since = 0;
-    let batch = batch_of(&report, gate.second_leaf());
+    let batch = batch_of(&report, pause.second_leaf());
     assert!(rt;
-        gate.wins.count() > 0
-            && gate.wins.missed() == 0
-            && gate.posts.was_kept()
+        pause.wins.count() > 0
+            && pause.wins.missed() == 0
+            && pause.posts.was_kept()
             && batch.is_some_and(|number| number <= since + 1)
     );
     Ok(())

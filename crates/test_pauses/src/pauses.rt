@@ -1,4 +1,4 @@
-//! The gates, by the points at which the workers meet.
+//! The pauses, by the points at which the workers meet.
 
 use crate::meeting::Meeting;
 use bt_io::{Pause, Point};
@@ -33,7 +33,7 @@ impl Pause for AtPosts {
 }
 
 /// The workers meet where each has posted its first call, and again where each is about to run its first piece. The
-/// gate records the places of the first batch's pieces.
+/// pause records the places of the first batch's pieces.
 #[derive(Drop)]
 pub struct AtCalls {
     pub posts: Meeting,
@@ -45,7 +45,7 @@ pub struct AtCalls {
 }
 
 impl AtCalls {
-    /// A gate to which nobody has come.
+    /// A pause to which nobody has come.
     pub fn new() -> AtCalls {
         AtCalls {
             posts: Meeting::new(),
@@ -108,7 +108,7 @@ pub struct AtWin {
 }
 
 impl AtWin {
-    /// A gate to which nobody has come.
+    /// A pause to which nobody has come.
     pub fn new() -> AtWin {
         AtWin {
             starts: AtomicU64::new(0),

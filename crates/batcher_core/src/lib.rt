@@ -1,13 +1,12 @@
 //! The core of the scheduler on one thread: a job with its state, and the run by turns.
 //!
-//! `drive` takes turns until the root is done, and `report` makes the rows of the report; a job without leaves has its
-//! report at once (`empty`). The rules and the laws of all runs are in `core_model`, and the state and its turns in
-//! `core_state`. The crate also builds on `launch_batch`, whose shop is part of the state, and on `sp_order`,
-//! `batch_history` and `seq_objects` for nodes, books and operations.
+//! `drive` takes turns until the root is done, and `report` makes the rows of the report. The rules and the laws of all
+//! runs are in `core_model`, and the state and its turns in `core_state`. The crate also builds on `launch_batch`,
+//! whose shop is part of the state, and on `sp_order`, `batch_history` and `seq_objects` for nodes, books and
+//! operations.
 #![tactic(auto)]
 
 pub mod driver;
-mod empty;
 mod report;
 pub mod scheduler;
 pub mod spun;
@@ -17,7 +16,6 @@ pub mod turn;
 pub use core_model::{CallState, Event, Progress, Receipt, Status, Task};
 pub use core_state::Doing;
 pub use driver::drive;
-pub use empty::report_of_empty;
 pub use scheduler::Core;
 pub use spun::Spun;
 pub use stopped::{Ended, drive_some};

@@ -13,9 +13,10 @@ pub mod program;
 pub mod run;
 pub mod status;
 
-use bt_io::{NoPause, Sink, StdShelf, StdSink};
+use bt_io::{Sink, StdShelf, StdSink};
 use program::batchrun;
 use program_io::{WordsErr, tell, words_behind_name};
+use run_points::NoPause;
 use status::Status;
 use std::env;
 use std::process::ExitCode;

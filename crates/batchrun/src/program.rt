@@ -18,9 +18,10 @@ use self::runs::{run_file, run_made, step_file};
 use crate::command::{Command, StepCommand, parse};
 use crate::outcome::Outcome;
 use crate::status::Status;
-use bt_io::{Pause, Shelf, Sink};
+use bt_io::{Shelf, Sink};
 use job_lang::laws::texts_have_one_job_or_fault;
 use program_io::tell;
+use run_points::Pause;
 use std::alloc::Global;
 use std::sync::Wait;
 use std::thread::Threads;
@@ -147,7 +148,7 @@ pub fn run_step<I: Shelf, O: Sink, E: Sink>(
 /// Runs the program on its words, over any shelf and sinks.
 ///
 /// A `step` command runs as in `run_step`. A `run` and a `gen` command wait for their threads, which call `pause` at
-/// the points of the gate.
+/// its points.
 pub fn batchrun<R: Threads + Wait + Sync, I: Shelf, O: Sink, E: Sink, G: Pause + Sync>(
     rt: &R,
     alloc: Global,

@@ -5,8 +5,9 @@ ghost use Rattle.batch_history.specs.Lawful.{Lawful};
 ghost use Rattle.core_model.specs.Reports.{IsDrivenReport, IsRunReport};
 
 use batch_history::Report;
-use batcher_core::{Core, drive, report_of_empty};
+use batcher_core::{Core, drive};
 use core_model::laws::report::driven_report_is_of_a_run;
+use core_model::report_of_empty;
 use sp_order::Job;
 use std::alloc::{AllocError, Global};
 

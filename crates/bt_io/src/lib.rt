@@ -1,4 +1,4 @@
-//! Byte input and output: the traits `Shelf` (named files) and `Sink`, and the `Pause` points of a run.
+//! Byte input and output: the traits `Shelf` (named files) and `Sink`.
 //!
 //! Every layer above does its input and output through `Shelf` and `Sink`, so its contracts can state which bytes
 //! were read and written. Each object counts its faults, and a failed call raises that count (unless it is
@@ -8,7 +8,6 @@
 mod fault_plan;
 pub mod mem_shelf;
 pub mod mem_sink;
-pub mod pause;
 pub mod shelf;
 pub mod sink;
 pub mod std_shelf;
@@ -16,7 +15,6 @@ pub mod std_sink;
 
 pub use mem_shelf::MemShelf;
 pub use mem_sink::MemSink;
-pub use pause::{NoPause, Pause, Point};
 pub use shelf::{ReadErr, Shelf, read_up_to};
 pub use sink::{Sink, write_all};
 pub use std_shelf::StdShelf;

@@ -11,7 +11,7 @@ pub struct Receipt {
     pub reply: Reply,
 }
 
-/// The status of a worker at the gate. A worker is trapped while its status is not `Free`.
+/// The status of a worker, by its call. A worker is trapped while its status is not `Free`.
 #[derive(Clone, Copy)]
 pub enum Status {
     /// No call of the worker is outstanding.

@@ -1,8 +1,8 @@
 //! The shelves and the sinks: each call once, and faults in mid-stream.
 use bt_io::{
-    Failed, MemShelf, MemSink, NoPause, Pause, Point, ReadErr, Shelf, Sink, StdShelf, StdSink,
-    read_up_to, write_all,
+    Failed, MemShelf, MemSink, ReadErr, Shelf, Sink, StdShelf, StdSink, read_up_to, write_all,
 };
+use run_points::{NoPause, Pause, Point};
 use std::alloc::{AllocError, Global};
 use std::io::{self, Write};
 use std::test::Fail;

@@ -9,7 +9,7 @@ use Rattle.core_model.specs.Runs.{IsReached, IsStep}
 use Rattle.core_model.specs.Reports.{IsRunFrom, IsRunReport, IsRunShape}
 use Rattle.batcher_core.specs.declared.turn.Turn.TheVariants.{Moved}
 use Rattle.batcher_core.specs.Cores.{CoreView, job_in, state_in, IsTurnResult}
-use Rattle.worker_loop.specs.Runs.{IsCoreOf, IsRunOf}
+use Rattle.locked_run.specs.Runs.{IsCoreOf, IsRunOf}
 
 -- the model's job of a core of this job
 pub job_of_core : (value : JobValue) (count : ℕ) (core : CoreView) → IsCoreOf value count core → job_in core ≡ core_job value count

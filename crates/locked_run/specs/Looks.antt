@@ -4,9 +4,9 @@ use Rattle.std.specs.Prelude.{List, length, slice_index, Option, Some, None}
 use Rattle.batcher_core.specs.Cores.{job_in, state_in, due_in, is_over_in, IsTurnResult}
 use Rattle.batcher_core.specs.Doings.{doing_in}
 use Rattle.batcher_core.specs.declared.turn.Turn.TheVariants as turns
-use Rattle.worker_loop.specs.declared.locked.turn.Look.{Look}
-use Rattle.worker_loop.specs.declared.locked.turn.Look.TheVariants.{Moved, Due, Idle, Ended}
-use Rattle.worker_loop.specs.Runs.{RunView}
+use Rattle.locked_run.specs.declared.turn.Look.{Look}
+use Rattle.locked_run.specs.declared.turn.Look.TheVariants.{Moved, Due, Idle, Ended}
+use Rattle.locked_run.specs.Runs.{RunView}
 
 -- the newest node of a list that is longer than before, or `None` for one that is not
 abbrev pub IsMade : ℕ → List ℕ → Option ℕ → Type 0

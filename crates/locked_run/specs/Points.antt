@@ -1,9 +1,9 @@
--- The points of the gate that an event brings a worker to.
+-- The points of the run that an event brings a worker to.
 use Rattle.std.specs.Prelude.{Option, Some, None}
 use Rattle.core_state.specs.declared.doing.Doing.{Doing}
 use Rattle.core_state.specs.declared.doing.Doing.TheVariants.{Started, Calling, Other}
-use Rattle.bt_io.specs.declared.pause.Point.{Point}
-use Rattle.bt_io.specs.declared.pause.Point.TheVariants.{LeafStart, Posted}
+use Rattle.run_points.specs.declared.pause.Point.{Point}
+use Rattle.run_points.specs.declared.pause.Point.TheVariants.{LeafStart, Posted}
 
 -- For a worker whose call is now outstanding: the point `Posted`, unless the worker was calling before the event too.
 abbrev pub posted_by : Doing → Point → Option Point

@@ -1,7 +1,7 @@
 //! How a worker without an event looks for a sign of work.
 ghost use Rattle.std.specs.Prelude.{◌≡◌, ◌≢◌, ◌<◌, ◌≤◌};
 ghost use Rattle.two_deques.specs.Hands.{held};
-ghost use Rattle.worker_loop.specs.Code.Hints.{AreHintsOf};
+ghost use Rattle.locked_run.specs.Code.Hints.{AreHintsOf};
 
 use crossbeam_utils::Backoff;
 use std::sync::Wait;

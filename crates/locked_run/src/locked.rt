@@ -1,24 +1,18 @@
-//! The reference implementation of a run in threads, with the same promise: the threads take turns on one core, under
-//! one lock.
+//! The run: the workers in threads, joined, and the report.
 ghost use Rattle.std.specs.Prelude.{◌≡◌, ◌<◌, ◌≤◌, Some, IfOk, false};
 ghost use Rattle.batch_history.specs.Lawful.{Lawful};
 ghost use Rattle.core_model.specs.Reports.{IsRunReport};
 ghost use Rattle.core_model.specs.State.{opening_core};
 ghost use Rattle.batcher_core.specs.Cores.{state_in};
-ghost use Rattle.worker_loop.specs.Runs.{IsCoreOf};
+ghost use Rattle.locked_run.specs.Runs.{IsCoreOf};
 
-mod hints;
-pub mod run;
-mod sending;
-pub mod turn;
-mod worker;
-
-use self::run::{JobBrand, LockedRun, Run};
-use self::sending::cores_are_sent;
-use self::worker::{Shared, work};
+use crate::run::{JobBrand, LockedRun, Run};
+use crate::sending::cores_are_sent;
+use crate::worker::{Shared, work};
 use batch_history::Report;
-use batcher_core::{Core, report_of_empty};
-use bt_io::Pause;
+use batcher_core::Core;
+use core_model::report_of_empty;
+use run_points::Pause;
 use sp_order::{Job, Plan};
 use std::alloc::{AllocError, Global};
 use std::marker::Brand;
@@ -95,7 +89,7 @@ fn run_core<J: JobBrand + Send + Sync, R: Threads + Wait + Sync, G: Pause + Sync
 /// cannot be spawned, the caller does its work. All threads are joined before this returns, also where memory ran out.
 /// Unless memory ran out, what the workers left undone is finished on the caller's thread.
 ///
-/// The gate is called outside the lock: where a worker has started a leaf, and where it has posted a call.
+/// `pause` is called outside the lock: where a worker has started a leaf, and where it has posted a call.
 pub fn run_locked<R: Threads + Wait + Sync, G: Pause + Sync>(
     rt: &R,
     alloc: Global,

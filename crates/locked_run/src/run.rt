@@ -6,10 +6,10 @@ ghost use Rattle.batcher_core.specs.Cores.{state_in};
 ghost use Rattle.core_model.specs.Invariant.{Invariant};
 ghost use Rattle.core_model.specs.State.{core_job, opening_core};
 ghost use Rattle.core_model.specs.Reports.{IsRunReport};
-ghost use Rattle.worker_loop.specs.Runs.{RunView, IsCoreOf};
-ghost use Rattle.worker_loop.specs.Looks.{HasLooked};
+ghost use Rattle.locked_run.specs.Runs.{RunView, IsCoreOf};
+ghost use Rattle.locked_run.specs.Looks.{HasLooked};
 
-use crate::locked::turn::{Look, newest_if_longer, turn_with};
+use crate::turn::{Look, newest_if_longer, turn_with};
 use batch_history::Report;
 use batcher_core::{Core, Spun, Turn, drive};
 use core_model::laws::report::run_goes_on_from_reached;
@@ -68,7 +68,7 @@ pub struct Run<J: JobBrand> {
 impl<J: JobBrand> Model for Run<J> {
     ghost use Rattle.std.specs.Coded.{codes};
     ghost use Rattle.sp_order.specs.Jobs.{coded_job};
-    ghost use Rattle.worker_loop.specs.Runs.{RunView, IsRunOf};
+    ghost use Rattle.locked_run.specs.Runs.{RunView, IsRunOf};
 
     ghost Value = { RunView };
 

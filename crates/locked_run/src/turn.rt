@@ -2,7 +2,7 @@
 ghost use Rattle.std.specs.Prelude.{◌≡◌, ◌<◌, IfOk, IfSome, Some, false, ℕ};
 ghost use Rattle.batcher_core.specs.Cores.{job_in, state_in, due_in, IsTurnResult};
 ghost use Rattle.batcher_core.specs.declared.turn.Turn.TheVariants.{Spin};
-ghost use Rattle.worker_loop.specs.Looks.{IsMade};
+ghost use Rattle.locked_run.specs.Looks.{IsMade};
 
 use batcher_core::{Core, Doing, Spun, Turn};
 use std::alloc::AllocError;

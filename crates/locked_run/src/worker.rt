@@ -1,15 +1,14 @@
 //! The loop of one worker under the lock.
 ghost use Rattle.std.specs.Prelude.{◌≡◌, ◌≤◌};
 ghost use Rattle.two_deques.specs.Hands.{held, workers_of, IsHandOf};
-ghost use Rattle.worker_loop.specs.Code.Hints.{AreHintsOf};
-ghost use Rattle.worker_loop.specs.Points.{point_by};
+ghost use Rattle.locked_run.specs.Code.Hints.{AreHintsOf};
+ghost use Rattle.locked_run.specs.Points.{point_by};
 
-use crate::locked::hints::WorkHints;
-use crate::locked::run::LockedRun;
-use crate::locked::turn::Look;
-use crate::start_barrier::wait_for_others;
+use crate::hints::WorkHints;
+use crate::run::LockedRun;
+use crate::turn::Look;
 use batcher_core::{Doing, Spun};
-use bt_io::{Pause, Point};
+use run_points::{Pause, Point, wait_for_others};
 use std::sync::atomic::AtomicU64;
 use std::sync::{Mutex, Wait};
 use std::thread;
@@ -36,7 +35,7 @@ struct Worker {
     doing: Doing,
 }
 
-/// The point of the gate that an event brings a worker to, by what the worker did before the event (`was`) and does
+/// The point of the run that an event brings a worker to, by what the worker did before the event (`was`) and does
 /// after it. A call stays posted over several events, so only its first one is a point.
 fn point_reached(was: Doing, doing: Doing) -> Option<Point>
     ensures { result ≡ point_by was doing }
@@ -64,7 +63,7 @@ impl Worker {
         }
     }
 
-    /// Records what an event left the worker doing. At a point of the gate, the worker may be held there.
+    /// Records what an event left the worker doing. At a point of the run, the worker may be held there.
     fn set_doing<G: Pause>(&mut self, pause: &G, doing: Doing)
         ensures { self.new.hints ≡ self.old.hints }
     {

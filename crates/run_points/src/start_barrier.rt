@@ -8,7 +8,7 @@ const MOST_LOOKS: u32 = 1_000;
 
 /// A start barrier of at most 1,000 looks: a thread that could not be spawned never arrives. Without the barrier the
 /// first thread would do most short jobs before another one starts.
-pub(crate) fn wait_for_others(arrived: &AtomicU64, workers: u32) {
+pub fn wait_for_others(arrived: &AtomicU64, workers: u32) {
     arrived.fetch_add(1, Ordering::SeqCst);
     let backoff = Backoff::new();
     for _ in 0..MOST_LOOKS {

@@ -5,10 +5,10 @@ ghost use Rattle.worker_crew.specs.Workers.{IsReady};
 
 use crate::workers::{Made, Plan, Team};
 use batch_history::Report;
-use bt_io::{NoPause, Pause};
 use core_model::Receipt;
 use core_table::{CoreTable, Pass};
 use job_lang::read_job;
+use run_points::{NoPause, Pause};
 use sp_order::Job;
 use std::alloc::{AllocError, Global};
 use std::sync::Wait;

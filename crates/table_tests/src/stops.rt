@@ -2,8 +2,8 @@
 //! for a result of its launch.
 use crate::runs::work_as_crew;
 use crate::workers::{Plan, Team};
-use bt_io::NoPause;
 use job_lang::read_job;
+use run_points::NoPause;
 use sp_order::Job;
 use std::alloc::{AllocError, Global};
 use std::sync::Wait;

@@ -6,8 +6,8 @@ ghost use Rattle.two_deques.specs.Hands.{held};
 ghost use Rattle.worker_crew.specs.Workers.{IsMeOf};
 
 use crate::steps::{claim, go_on};
-use bt_io::{Pause, Point};
 use core_model::Next;
+use run_points::{Pause, Point};
 use std::alloc::Global;
 use std::sync::Wait;
 use worker_turns::{Called, Crew, Me, Stop, call};

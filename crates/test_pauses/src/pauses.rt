@@ -1,7 +1,7 @@
 //! The pauses, by the points at which the workers meet.
 
 use crate::meeting::Meeting;
-use bt_io::{Pause, Point};
+use run_points::{Pause, Point};
 use std::sync::atomic::{AtomicU64, Ordering};
 
 /// The workers meet where each has started its first leaf.

@@ -3,13 +3,14 @@ ghost use Rattle.std.specs.Prelude.{◌≡◌, IfOk, Some};
 ghost use Rattle.sp_order.specs.Precedence.{tree_of, leaf_count};
 
 use batch_history::{Batch, Report};
-use bt_io::NoPause;
+use locked_run::run_locked;
+use run_points::NoPause;
 use seq_objects::{Act, Op};
 use sp_order::{Job, Shape};
 use std::alloc::{AllocError, Global};
 use std::test::Fail;
 use test_pauses::{AtCalls, AtPosts, AtStarts, AtWin, Meeting};
-use worker_loop::{run_locked, run_table};
+use worker_loop::run_table;
 
 /// The shape of `par { A B C D }`.
 fn par_of_four(alloc: Global) -> Result<Shape, AllocError>

@@ -11,7 +11,8 @@ use piece_board::{Board, Desk};
 use std::alloc::{AllocError, AllocFailed};
 use two_deques::{Decks, Hand, Tries};
 
-/// What all workers share: the table, the deques, the board, the number of workers, and the gate (`bt_io::Pause`).
+/// What all workers share: the table, the deques, the board, the number of workers, and where a test may hold them
+/// (`run_points::Pause`).
 #[derive(Drop)]
 pub struct Crew<'a, G> {
     pub table: CoreTable,

@@ -74,7 +74,7 @@ pub fn workers_go_to_threads()
     decks_go_to_threads();
 }
 
-/// A crew can be shared between threads if its gate can.
+/// A crew can be shared between threads if its `Pause` can.
 pub fn crews_go_to_threads<G: Sync>()
     ensures { (l : NamedLft) → IsSync (crew_row l G.row) }
 {

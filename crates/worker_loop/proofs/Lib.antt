@@ -1,3 +1,1 @@
-mod TurnLemmas
-mod RunKept
 mod PairLemmas

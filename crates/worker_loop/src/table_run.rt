@@ -16,12 +16,11 @@ ghost use Rattle.worker_loop.specs.Ends.{HasEnded};
 mod deques;
 
 use self::deques::{drop_decks, make_decks};
-use crate::start_barrier::wait_for_others;
 use crate::{Crew, Me};
 use batch_history::Report;
-use batcher_core::report_of_empty;
-use bt_io::Pause;
+use core_model::report_of_empty;
 use core_table::{CoreTable, Pass};
+use run_points::{Pause, wait_for_others};
 use sp_order::Job;
 use std::alloc::{AllocError, Global};
 use std::sync::Wait;
@@ -166,7 +165,7 @@ fn close(alloc: Global, table: CoreTable, pass: Pass) -> Result<Report, AllocErr
 /// an error. Each worker's deques are made by a thread of its own before the workers begin, and dropped by one after
 /// they end.
 ///
-/// The gate is called where a worker has started a leaf, where it has posted a call, where it has won the flag, and
+/// `pause` is called where a worker has started a leaf, where it has posted a call, where it has won the flag, and
 /// where it is about to run a piece.
 pub fn run_table<R: Threads + Wait + Sync, G: Pause + Sync>(
     rt: &R,

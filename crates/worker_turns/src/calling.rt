@@ -17,10 +17,10 @@ ghost use Rattle.worker_turns.specs.Free.{Helps};
 
 use crate::back_off::back_off;
 use crate::trapped::{Trapped, trapped_turn};
-use bt_io::{Pause, Point};
 use core_model::{Next, Receipt};
 use core_table::{CoreTable, Pass};
 use crossbeam_utils::Backoff;
+use run_points::{Pause, Point};
 use seq_objects::Op;
 use sp_order::with_value;
 use std::alloc::Global;

@@ -9,8 +9,8 @@ ghost use Rattle.worker_turns.specs.Stops.{IsStop};
 ghost use Rattle.worker_turns.specs.Free.{RanToIdle};
 
 use crate::calling::make_call;
-use bt_io::{Pause, Point};
 use core_model::Next;
+use run_points::{Pause, Point};
 use seq_objects::value;
 use seq_objects::work::spin;
 use std::alloc::Global;

@@ -12,8 +12,8 @@ ghost use Rattle.worker_turns.specs.Free.{node_of, pass_after, IsOwnNode, IsOthe
 use crate::attempts::{NodeAttempt, PieceAttempt, StealAttempt};
 use crate::carry::run_to_idle;
 use crate::pieces::{claim_and_run, pop_own_piece};
-use bt_io::Pause;
 use core_table::{CoreTable, Pass};
+use run_points::Pause;
 use std::alloc::Global;
 use std::sync::Wait;
 use two_deques::Deck;

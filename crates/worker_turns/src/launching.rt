@@ -14,10 +14,10 @@ ghost use Rattle.worker_turns.specs.Code.Serving.{Holds, HasLooked, HasTaken, an
 
 use crate::pieces::serve_pieces;
 use batch_history::Entry;
-use bt_io::Pause;
 use core_model::Receipt;
 use core_table::{CoreTable, Pass};
 use launch_batch::Shop;
+use run_points::Pause;
 use seq_objects::Call;
 use sp_order::laws::plan_stands_for_tree;
 use std::alloc::Global;

@@ -6,8 +6,8 @@ ghost use Rattle.worker_crew.specs.Workers.{me_seen, IsMeOf};
 ghost use Rattle.worker_turns.specs.Pieces.{spot_of, desk_after, piece_try, after_piece_try, IsOwnPiece, IsOtherPiece};
 
 use crate::attempts::PieceAttempt;
-use bt_io::{Pause, Point};
 use launch_batch::run_piece;
+use run_points::{Pause, Point};
 use std::alloc::Global;
 use std::sync::Wait;
 use two_deques::{Deck, Spot, Tries};

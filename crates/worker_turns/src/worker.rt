@@ -6,9 +6,9 @@ ghost use Rattle.worker_turns.specs.Stops.{KnowsStop};
 
 use crate::back_off::back_off;
 use crate::free::{Did, free_turn};
-use bt_io::Pause;
 use core_table::Pass;
 use crossbeam_utils::Backoff;
+use run_points::Pause;
 use std::alloc::Global;
 use std::sync::Wait;
 use worker_crew::{Crew, Me, Stop};

@@ -19,11 +19,12 @@ use crate::run::run_by_turns;
 use crate::status::Status;
 use batch_history::Report;
 use batch_history::laws::{lawful_reports_name_their_objects, summary_is_the_jobs};
-use bt_io::{Pause, Shelf, Sink};
+use bt_io::{Shelf, Sink};
 use job_writer::generate;
 use job_writer::laws::{
     generated_jobs_fill_first, generated_jobs_have_few_leaves, generated_jobs_have_small_arguments,
 };
+use run_points::Pause;
 use sp_order::Job;
 use std::alloc::{AllocError, Global};
 use std::sync::Wait;

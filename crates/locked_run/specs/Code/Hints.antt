@@ -2,7 +2,7 @@
 use Rattle.std.specs.Prelude.{◌≡◌, ◌<◌, ◌≤◌}
 use Rattle.two_deques.specs.declared.decks.Decks.{Decks}
 use Rattle.two_deques.specs.Hands.{workers_of, IsHandOf}
-use Rattle.worker_loop.specs.declared.locked.hints.WorkHints.{WorkHints}
+use Rattle.locked_run.specs.declared.hints.WorkHints.{WorkHints}
 
 -- The hand belongs to these deques, the hints have their number of workers, which is at most 32, and the last victim is
 -- one of these workers.

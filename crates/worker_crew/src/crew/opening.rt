@@ -11,9 +11,9 @@ ghost use Rattle.worker_crew.specs.Opening.{is_call, opening_hand, HaveRooms, Ar
 
 use crate::batch_pieces::BatchPieces;
 use crate::crew::{Crew, Me};
-use bt_io::Pause;
 use core_table::{CoreTable, Pass};
 use piece_board::{Board, Desk};
+use run_points::Pause;
 use seq_objects::Act;
 use sp_order::Job;
 use std::alloc::{AllocError, Global};

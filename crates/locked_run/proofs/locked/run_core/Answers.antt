@@ -1,6 +1,6 @@
 use denote.Param.Send.{sendable}
 use Rattle.std.proofs.Crossing.{crosses}
-use Rattle.worker_loop.proofs.locked.run_core.Goals as goal
+use Rattle.locked_run.proofs.locked.run_core.Goals as goal
 
 pub run_in_threads-requires-send-S : goal.run_in_threads-requires-send-S
 run_in_threads-requires-send-S g c κs =

@@ -4,7 +4,7 @@ use Rattle.std.proofs.Crossing.{crosses}
 use Rattle.launch_batch.specs.contracts.shop.Shop as shop
 use Rattle.core_model.specs.contracts.setting.Setting as setting
 use Rattle.core_state.specs.contracts.state.State as state
-use Rattle.worker_loop.proofs.locked.sending.cores_are_sent.Goals as goal
+use Rattle.locked_run.proofs.sending.cores_are_sent.Goals as goal
 
 state_is_sent : IsSend shop.the_row → IsSend (state.the_field).row
 state_is_sent part = search (sendable, crosses) depth 40 fits 20000

@@ -2,9 +2,9 @@ use Rattle.std.proofs.Common.{rules, subst}
 use Rattle.batcher_core.specs.Cores.{job_in, state_in, IsTurnResult}
 use Rattle.batcher_core.specs.declared.turn.Turn.{Turn}
 use Rattle.batcher_core.specs.declared.turn.Turn.TheVariants.{Idle}
-use Rattle.worker_loop.specs.Runs.{RunView}
-use Rattle.worker_loop.proofs.RunKept.{run_moved}
-use Rattle.worker_loop.proofs.locked.run.RunLockedRun.look.Goals as goal
+use Rattle.locked_run.specs.Runs.{RunView}
+use Rattle.locked_run.proofs.RunKept.{run_moved}
+use Rattle.locked_run.proofs.run.RunLockedRun.look.Goals as goal
 
 pub returns-in-Ok-Idle : goal.returns-in-Ok-Idle
 returns-in-Ok-Idle g c =

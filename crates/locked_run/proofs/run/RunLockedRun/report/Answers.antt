@@ -1,5 +1,5 @@
-use Rattle.worker_loop.proofs.RunKept.{run_reported}
-use Rattle.worker_loop.proofs.locked.run.RunLockedRun.report.Goals as goal
+use Rattle.locked_run.proofs.RunKept.{run_reported}
+use Rattle.locked_run.proofs.run.RunLockedRun.report.Goals as goal
 
 pub returns-clause-run : goal.returns-clause-run
 returns-clause-run g c =

@@ -3,6 +3,7 @@ use Rattle.std.specs.Prelude.{ℕ, ◌+◌, ◌<◌, ◌≤◌, List, [], ◌∷
 use Rattle.std.specs.List.{slice_split, filter_map}
 use Rattle.std.specs.Option.{option_or, is_some}
 use Rattle.std.specs.Str.{bytes_eq}
+use Rattle.limits.specs.declared.TheConstants.{MOST_BATCH_CALLS, MOST_SCRIPT_CALLS}
 use Rattle.batch_script.specs.declared.fault.ScriptFault.{ScriptFault}
 use Rattle.batch_script.specs.declared.fault.ScriptFault.TheVariants.{Call, Batch, Calls}
 
@@ -48,12 +49,12 @@ abbrev pub groups_of : List Line → List (List Line)
 groups_of lines = slice_split (λ (line : Line). are_go line.words) (filter (λ (line : Line). is_some_of line.words) lines)
 
 -- The fault of a line that is to be a call, if any, where `number` calls stand before it in the script, and `place` of
--- these in its batch: it is no call, or the 33rd of its batch, or the 100,001st of the script. The first counts.
+-- these in its batch: it is no call, or one more than a batch may have, or one more than a script may have. The first counts.
 abbrev pub fault_at : {C : Type 0} → (List (List ℕ) → Option C) → ℕ → ℕ → Line → Option ScriptFault
 fault_at call_of number place line =
     if not (is_some (call_of line.words)) then Some (Call line.number)
-    else if nat_le 32 place then Some (Batch line.number)
-    else if nat_le 100000 number then Some (Calls line.number)
+    else if nat_le MOST_BATCH_CALLS place then Some (Batch line.number)
+    else if nat_le MOST_SCRIPT_CALLS number then Some (Calls line.number)
     else None
 
 -- the first fault of the lines of a batch
@@ -91,7 +92,7 @@ abbrev pub script_of : {C : Type 0} → (List (List ℕ) → Option C) → List 
 script_of call_of bytes =
     unless_fault (fault_among call_of 0 (groups_of (lines_of bytes))) (batches_in call_of (groups_of (lines_of bytes)))
 
--- what a batch of a script is: 1 to 32 calls
+-- what a batch of a script is: at least one call, and no more than it may have
 pub record IsBatch {C : Type 0} (calls : List C) : Type 0 where
   pub some : 0 < length calls
-  pub few : length calls ≤ 32
+  pub few : length calls ≤ MOST_BATCH_CALLS

@@ -1,5 +1,6 @@
 //! The reader of scripts: it reads a text once, line by line.
 ghost use Rattle.std.specs.Prelude.{◌≡◌, ◌+◌, ◌≤◌, List, ◌∷◌, length, IfErr, OnOk};
+ghost use Rattle.limits.specs.declared.TheConstants.{MOST_SCRIPT_BYTES};
 ghost use Rattle.batch_script.specs.Scripts.{are_go, script_of, Line};
 ghost use Rattle.batch_script.specs.Answers.{IsReading, IsBadBy};
 ghost use Rattle.batch_script.specs.Code.Reading.{comes_to};
@@ -53,7 +54,7 @@ fn take_line<F: Form>(
 /// It is refused for its first fault, from the first line on. Time: linear in the bytes, and a `call_of` for each call.
 /// Memory: linear in the bytes; a batch is a vector, and the words of a line use the buffers of the words before.
 pub fn read_script<F: Form>(alloc: Global, bytes: &[u8]) -> Result<Script<F::Call>, ScriptErr>
-    requires { length bytes.now ≤ 1048576 }
+    requires { length bytes.now ≤ MOST_SCRIPT_BYTES }
     ensures { IsReading (script_of F.call_of bytes.now) result }
 {
     let mut names = Vec::new(alloc);

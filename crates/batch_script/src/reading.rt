@@ -4,15 +4,10 @@ ghost use Rattle.batch_script.specs.Code.Reading.{ended, called, fault_of_call, 
 
 use crate::fault::{ScriptErr, ScriptFault};
 use crate::script::Script;
+use limits::{MOST_BATCH_CALLS, MOST_SCRIPT_CALLS};
 use std::alloc::{AllocError, Global};
 use std::marker::Model;
 use std::mem;
-
-/// The most calls of a batch.
-const MOST_OF_BATCH: usize = 32;
-
-/// The most calls of a script.
-const MOST_CALLS: u32 = 100_000;
 
 /// The batches of a script that are done, the calls of the next, and how many calls there are in all.
 #[derive(Drop)]
@@ -25,6 +20,7 @@ pub(crate) struct Reading<C: Drop> {
 impl<C: Drop> Model for Reading<C> {
     ghost use Rattle.std.specs.Prelude.{◌≤◌, map, length};
     ghost use Rattle.std.specs.List.{AllByRecursion};
+    ghost use Rattle.limits.specs.declared.TheConstants.{MOST_BATCH_CALLS};
     ghost use Rattle.batch_script.specs.Scripts.{IsBatch};
     ghost use Rattle.batch_script.specs.Code.Reading.{Read};
 
@@ -37,7 +33,7 @@ impl<C: Drop> Model for Reading<C> {
     } };
 
     ghost invariant = { λ reading. AllByRecursion (λ batch. IsBatch batch.items) reading.done.items
-        × (length reading.begun.items ≤ 32) };
+        × (length reading.begun.items ≤ MOST_BATCH_CALLS) };
 }
 
 impl<C: Drop> Reading<C> {
@@ -73,10 +69,10 @@ impl<C: Drop> Reading<C> {
         let Some(call) = call else {
             return Err(ScriptErr::Bad(ScriptFault::Call { line }));
         };
-        if self.begun.len() >= MOST_OF_BATCH {
+        if self.begun.len() >= MOST_BATCH_CALLS {
             return Err(ScriptErr::Bad(ScriptFault::Batch { line }));
         }
-        if self.number >= MOST_CALLS {
+        if self.number >= MOST_SCRIPT_CALLS {
             return Err(ScriptErr::Bad(ScriptFault::Calls { line }));
         }
         if self.begun.push(call).is_err() {

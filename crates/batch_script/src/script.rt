@@ -1,4 +1,4 @@
-//! A script that was read: batches of 1 to 32 calls.
+//! A script that was read: its batches, none of them empty.
 ghost use Rattle.std.specs.Prelude.{◌≡◌, ◌<◌, length, slice_get, Some};
 ghost use Rattle.batch_script.specs.Scripts.{IsBatch};
 

@@ -12,7 +12,7 @@ pub enum ScriptStatus {
     Usage,
     /// The file could not be chosen or read to its end.
     ReadFault,
-    /// The file has more than 1,048,576 bytes.
+    /// The file has more bytes than a script may have.
     TooLong,
     /// The file is no script.
     Bad(ScriptFault),

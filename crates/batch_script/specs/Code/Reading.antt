@@ -1,5 +1,6 @@
 -- A script as it is read, line by line.
 use Rattle.std.specs.Prelude.{◌≡◌, ℕ, ◌+◌, List, [], ◌∷◌, ◌++◌, length, nat_le, Option, Some, None, if◌then◌else◌}
+use Rattle.limits.specs.declared.TheConstants.{MOST_BATCH_CALLS, MOST_SCRIPT_CALLS}
 use Rattle.batch_script.specs.declared.fault.ScriptFault.{ScriptFault}
 use Rattle.batch_script.specs.declared.fault.ScriptFault.TheVariants.{Call, Batch, Calls}
 use Rattle.batch_script.specs.declared.fault.ScriptErr.{ScriptErr}
@@ -25,7 +26,7 @@ ended read = record { done = closed read.done read.begun; begun = []; number = r
 abbrev pub fault_of_call : {C : Type 0} → Option C → ℕ → ℕ → ℕ → Option ScriptFault
 fault_of_call None number place line = Some (Call line)
 fault_of_call (Some call) number place line =
-    if nat_le 32 place then Some (Batch line) else if nat_le 100000 number then Some (Calls line) else None
+    if nat_le MOST_BATCH_CALLS place then Some (Batch line) else if nat_le MOST_SCRIPT_CALLS number then Some (Calls line) else None
 
 -- the calls with one more, where there is one
 abbrev pub with_call : {C : Type 0} → List C → Option C → List C

@@ -1,6 +1,7 @@
 -- What the steps of a run of a script answer: the reading of its file, and the writing of its text.
 use Rattle.std.specs.Prelude.{ℕ, ◌<◌, List, length, Option, IfSome}
 use Rattle.std.specs.Io.KnownBytes.{Appends, Keeps}
+use Rattle.limits.specs.declared.TheConstants.{MOST_SCRIPT_BYTES}
 use Rattle.bt_io.specs.Bytes.{AppendsFront}
 use Rattle.batch_script.specs.declared.status.ScriptStatus.{ScriptStatus}
 use Rattle.batch_script.specs.declared.status.ScriptStatus.TheVariants.{Done, ReadFault, TooLong, WriteFault, Memory}
@@ -8,7 +9,7 @@ use Rattle.batch_script.specs.declared.status.ScriptStatus.TheVariants.{Done, Re
 -- why a run could not read its file to the end
 abbrev pub StopsReading : ScriptStatus → Option (List ℕ) → Type 0 → Type 0
 StopsReading ReadFault held ReadsFailed = ReadsFailed
-StopsReading TooLong held ReadsFailed = IfSome held (λ bytes. 1048576 < length bytes)
+StopsReading TooLong held ReadsFailed = IfSome held (λ bytes. MOST_SCRIPT_BYTES < length bytes)
 StopsReading Memory held ReadsFailed = Unit {0}
 StopsReading other held ReadsFailed = ⊥
 

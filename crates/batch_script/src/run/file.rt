@@ -1,6 +1,7 @@
 //! The run of the script that a file holds.
 ghost use Rattle.std.specs.Prelude.{◌≡◌, ℕ, List, ◌<◌, length, Err, Some, IsSome, IsTrue, IfOk, IfErr};
 ghost use Rattle.bt_io.specs.Causes.{Rose};
+ghost use Rattle.limits.specs.declared.TheConstants.{MOST_SCRIPT_BYTES};
 ghost use Rattle.program_io.specs.Reading.{WasRead};
 ghost use Rattle.batch_script.specs.Scripts.{script_of};
 ghost use Rattle.batch_script.specs.Texts.{script_text, batches_text};
@@ -14,17 +15,15 @@ use crate::script::Script;
 use crate::serves::Serves;
 use crate::status::ScriptStatus;
 use bt_io::{Failed, ReadErr, Shelf, Sink, write_all};
+use limits::MOST_SCRIPT_BYTES;
 use program_io::read_file;
 use std::alloc::Global;
 use std::thread::Threads;
 
-/// The most bytes of a script.
-const MOST_BYTES: usize = 1_048_576;
-
 /// The bytes of a file, or the status of a run that could not read it to its end.
 fn read_bytes<I: Shelf>(alloc: Global, shelf: &mut I, file: &str) -> Result<Vec<u8>, ScriptStatus>
     requires { IsTrue (I.may shelf.old file.now) }
-    ensures ok { IfOk result (λ bytes. WasRead 1048576 (I.held shelf.old file.now) bytes.items) }
+    ensures ok { IfOk result (λ bytes. WasRead MOST_SCRIPT_BYTES (I.held shelf.old file.now) bytes.items) }
     ensures err { IfErr result (λ status. StopsReading status (I.held shelf.old file.now)
         (Rose (I.faults shelf.old) (I.faults shelf.new))) }
     ensures sure { IsTrue (I.never_fails shelf.old)
@@ -32,7 +31,7 @@ fn read_bytes<I: Shelf>(alloc: Global, shelf: &mut I, file: &str) -> Result<Vec<
         → result ≡ Err ScriptStatus.ReadFault
         → ⊥ }
 {
-    match read_file(alloc, shelf, file, MOST_BYTES) {
+    match read_file(alloc, shelf, file, MOST_SCRIPT_BYTES) {
         Ok(bytes) => Ok(bytes),
         Err(ReadErr::Failed) => Err(ScriptStatus::ReadFault),
         Err(ReadErr::TooLong) => Err(ScriptStatus::TooLong),
@@ -69,7 +68,7 @@ pub(crate) fn run_file<R: Threads + Sync, T: Serves, I: Shelf, O: Sink>(
     out: &mut O,
 ) -> ScriptStatus
     requires { IsTrue (I.may shelf.old file.now) }
-    ensures prints { Prints (WasRead 1048576 (I.held shelf.old file.now)) (script_of T.call_of)
+    ensures prints { Prints (WasRead MOST_SCRIPT_BYTES (I.held shelf.old file.now)) (script_of T.call_of)
         (script_text T.call_of T.lines T.after T.opening) result (O.taken out.old) (O.taken out.new) }
     ensures cause { HasCause (script_of T.call_of) result (I.held shelf.old file.now)
         (Rose (I.faults shelf.old) (I.faults shelf.new)) (Rose (O.faults out.old) (O.faults out.new)) }
@@ -77,7 +76,7 @@ pub(crate) fn run_file<R: Threads + Sync, T: Serves, I: Shelf, O: Sink>(
         → IsSome (I.held shelf.old file.now)
         → result ≡ ScriptStatus.ReadFault
         → ⊥ }
-    ensures writes { FailsPast (WasRead 1048576 (I.held shelf.old file.now))
+    ensures writes { FailsPast (WasRead MOST_SCRIPT_BYTES (I.held shelf.old file.now))
         (script_text T.call_of T.lines T.after T.opening) result (O.room_left out.old) }
 {
     let bytes = match read_bytes(alloc, shelf, file) {

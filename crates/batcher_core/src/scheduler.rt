@@ -10,6 +10,7 @@ ghost use Rattle.core_model.specs.Invariant.{Invariant};
 ghost use Rattle.core_model.specs.LeafSources.{HasSources};
 ghost use Rattle.core_model.specs.Reports.{IsReportOf, IsRowOf};
 ghost use Rattle.std.specs.List.{AllByRecursion, range_with_len};
+ghost use Rattle.limits.specs.declared.TheConstants.{MOST_WORKERS};
 ghost use Rattle.batcher_core.specs.Cores.{job_in, state_in, due_in, moved_if, turn_answer, is_over_in, IsTurnResult};
 ghost use Rattle.core_state.specs.Code.Representation.{RepInvariant};
 ghost use Rattle.batcher_core.specs.Doings.{doing_in};
@@ -76,7 +77,7 @@ impl Core {
     pub fn start(alloc: Global, job: &Job, workers: u32) -> Result<Core, AllocError>
         requires leaves { IsSome job.now.shape }
         requires some_workers { 0 < workers }
-        requires few_workers { workers ≤ 32 }
+        requires few_workers { workers ≤ MOST_WORKERS }
         ensures job { IfOk result (λ core. (core.job ≡ job.now) × (core.workers ≡ workers)) }
         ensures shape { IfOk result (λ core. core.job.shape ≡ Some (job_tree core.job)) }
         ensures opening { IfOk result (λ core. (state_in core ≡ opening_core)

@@ -1,5 +1,6 @@
 //! How a worker without an event looks for a sign of work.
 ghost use Rattle.std.specs.Prelude.{◌≡◌, ◌≢◌, ◌<◌, ◌≤◌};
+ghost use Rattle.limits.specs.declared.TheConstants.{MOST_WORKERS};
 ghost use Rattle.two_deques.specs.Hands.{held};
 ghost use Rattle.locked_run.specs.Code.Hints.{AreHintsOf};
 
@@ -18,7 +19,7 @@ pub(crate) struct WorkHints {
 
 /// The next worker, round robin.
 fn after(worker: u32, workers: u32) -> u32
-    requires { (worker < workers) × (workers ≤ 32) }
+    requires { (worker < workers) × (workers ≤ MOST_WORKERS) }
     ensures below { result < workers }
     ensures other { 1 < workers → result ≢ worker }
 {
@@ -41,7 +42,7 @@ impl WorkHints {
 
     /// The next victim: the next worker, round robin, other than the owner of the hand.
     fn next_victim(&self) -> u32
-        requires workers { (1 < self.now.workers) × (self.now.workers ≤ 32) }
+        requires workers { (1 < self.now.workers) × (self.now.workers ≤ MOST_WORKERS) }
         requires victim { self.now.victim < self.now.workers }
         ensures below { result < self.now.workers }
         ensures other { result ≢ (held self.now.hand).worker }

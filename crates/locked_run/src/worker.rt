@@ -1,5 +1,6 @@
 //! The loop of one worker under the lock.
 ghost use Rattle.std.specs.Prelude.{◌≡◌, ◌≤◌};
+ghost use Rattle.limits.specs.declared.TheConstants.{MOST_WORKERS};
 ghost use Rattle.two_deques.specs.Hands.{held, workers_of, IsHandOf};
 ghost use Rattle.locked_run.specs.Code.Hints.{AreHintsOf};
 ghost use Rattle.locked_run.specs.Points.{point_by};
@@ -23,7 +24,7 @@ pub(crate) struct Shared<'a, S: LockedRun, G> {
     pub(crate) arrived: AtomicU64,
     pub(crate) workers: u32,
     pub(crate) pause: &'a G,
-    ghost sizes: { (workers ≡ S.workers) × (workers ≡ workers_of decks) × (workers ≤ 32) },
+    ghost sizes: { (workers ≡ S.workers) × (workers ≡ workers_of decks) × (workers ≤ MOST_WORKERS) },
 }
 
 /// What a worker carries from turn to turn: how it looks for work, the work that it did and has not handed in, and what

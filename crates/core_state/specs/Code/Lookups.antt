@@ -12,13 +12,14 @@ use Rattle.core_model.specs.declared.event.Event.TheVariants.{Claim}
 use Rattle.core_model.specs.declared.setting.Setting.{Setting}
 use Rattle.core_state.specs.declared.state.State.{State as StoredState}
 use Rattle.core_model.specs.declared.task.Task.TheVariants.{Started}
+use Rattle.limits.specs.declared.TheConstants.{MOST_WORKERS}
 use Rattle.seq_objects.specs.Pairs.{AreDistinct}
 use Rattle.seq_objects.specs.Spin.{spin_of}
 use Rattle.std.specs.Prelude.{IfSome, List, Option, Some, [], length, map, true, ℕ, ◌+◌, ◌-◌, ◌<◌, ◌^◌, ◌∷◌, ◌≡◌, ◌≤◌}
 
 -- the preconditions of the lookups that choose a turn
 pub record CanChoose (setting : Setting) (t : StoredState) : Type 0 where
-  pub few : setting.workers ≤ 32
+  pub few : setting.workers ≤ MOST_WORKERS
   pub sizes : Sizes t (job_of setting).plan.count setting.workers
   pub tasks_in : (w : ℕ) → TaskIn (job_of setting).plan.count ((state_of t).task w)
   pub at_leaf : (w n start : ℕ) → (state_of t).task w ≡ Started n start → IsLeaf ((job_of setting).plan.kind n)

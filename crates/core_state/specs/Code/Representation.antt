@@ -8,6 +8,7 @@ use Rattle.core_model.specs.Operations.{IsCall}
 use Rattle.core_model.specs.State.{core_job}
 use Rattle.core_model.specs.declared.setting.Setting.{Setting}
 use Rattle.core_state.specs.declared.state.State.{State as StoredState}
+use Rattle.limits.specs.declared.TheConstants.{MOST_LEAVES, MOST_WORKERS}
 use Rattle.sp_order.specs.Plans.{IsPlan}
 use Rattle.sp_order.specs.Jobs.{JobValue, job_tree}
 use Rattle.sp_order.specs.Precedence.{leaves}
@@ -17,7 +18,7 @@ use Rattle.std.specs.Prelude.{Some, length, ℕ, ◌<◌, ◌≡◌, ◌≤◌}
 -- the invariant of a stored state for a job and a number of workers
 pub record RepInvariant (job : JobValue) (workers : ℕ) (t : StoredState) : Type 0 where
   pub some : 0 < workers
-  pub few : workers ≤ 32
+  pub few : workers ≤ MOST_WORKERS
   pub shape : job.shape ≡ Some (job_tree job)
   pub laws : IsPlan (nodes_of (job_tree job))
   pub most : (nodes_of (job_tree job)).count < 40000
@@ -28,7 +29,7 @@ pub record RepInvariant (job : JobValue) (workers : ℕ) (t : StoredState) : Typ
   -- each leaf's source is a calling leaf before it
   pub sources : HasSources (core_job job workers)
   pub sizes : Sizes t (nodes_of (job_tree job)).count workers
-  pub few_acts : length job.acts ≤ 20000
+  pub few_acts : length job.acts ≤ MOST_LEAVES
   pub shop : HasShop t
   pub inv : Invariant (core_job job workers) (core_state_of t)
 

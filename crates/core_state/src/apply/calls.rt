@@ -1,5 +1,6 @@
 //! The writes of the events of calls and of the flag: post, win, take, answer, release and leave.
 ghost use Rattle.std.specs.Prelude.{◌≡◌, ◌<◌, length, None, Some, IfSome, IsSome, if◌then◌else◌};
+ghost use Rattle.limits.specs.declared.TheConstants.{MOST_WORKERS};
 ghost use Rattle.core_model.specs.State.{put};
 ghost use Rattle.core_state.specs.Abstraction.{state_of, ready_of};
 ghost use Rattle.core_state.specs.Code.Sizes.{SameSizes};
@@ -53,9 +54,9 @@ impl State {
     #[tactic(auto, using(ready_lists::proofs::PlaceLemmas::Written::at_written), unfolding(crate::specs::Abstraction::state_of, crate::specs::Abstraction::ready_of))]
     pub(crate) fn take(&mut self, other: u32)
         requires status_in { other < length self.old.statuses.items }
-        requires other_in { other < 32 }
+        requires other_in { other < MOST_WORKERS }
         requires held { IsSome self.old.hold }
-        requires room { IfSome self.old.hold (λ h. h.looks < 32) }
+        requires room { IfSome self.old.hold (λ h. h.looks < MOST_WORKERS) }
         ensures sizes { SameSizes self.old self.new }
         ensures event { state_of self.new ≡ record (state_of self.old) {
           status = if status_pending ((state_of self.old).status other)
@@ -79,7 +80,7 @@ impl State {
     #[tactic(auto, using(ready_lists::proofs::PlaceLemmas::Written::at_written), unfolding(crate::specs::Abstraction::state_of, crate::specs::Abstraction::ready_of))]
     pub(crate) fn answer(&mut self, other: u32, receipt: Receipt)
         requires status_in { other < length self.old.statuses.items }
-        requires other_in { other < 32 }
+        requires other_in { other < MOST_WORKERS }
         requires held { IsSome self.old.hold }
         ensures sizes { SameSizes self.old self.new }
         ensures event { state_of self.new ≡ record (state_of self.old) {

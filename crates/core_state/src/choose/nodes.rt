@@ -1,5 +1,6 @@
 //! The choice of a worker that claims a node, the event of a next act, and the work that is due.
 ghost use Rattle.std.specs.Prelude.{◌≡◌, ◌<◌, ◌≤◌, ℕ, None, Some, IfSome, IsTrue};
+ghost use Rattle.limits.specs.declared.TheConstants.{MOST_WORKERS};
 ghost use Rattle.core_model.specs.Next.{event_of};
 ghost use Rattle.core_model.specs.Settings.{job_of};
 ghost use Rattle.core_state.specs.Abstraction.{state_of, ready_of};
@@ -30,7 +31,7 @@ impl State {
     #[tactic(auto, unfolding(crate::specs::Abstraction::ready_of))]
     pub(crate) fn choose_claim(&self, workers: u32, worker: u32) -> Option<Event>
         requires worker_in { worker < workers }
-        requires few { workers ≤ 32 }
+        requires few { workers ≤ MOST_WORKERS }
         ensures { result
             ≡ claim_choice workers (ready_of self.now) worker (ready_of self.now worker) }
     {

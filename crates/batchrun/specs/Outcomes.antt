@@ -2,6 +2,7 @@
 -- of these a command owes.
 use Rattle.std.specs.Prelude.{◌≡◌, ℕ, ◌<◌, ◌≤◌, ◌⊎◌, List, length, Bool, IsTrue, Option, None, Some, IfSome}
 use Rattle.std.specs.Io.KnownBytes.{Appends, Keeps}
+use Rattle.limits.specs.declared.TheConstants.{MOST_JOB_BYTES}
 use Rattle.bt_io.specs.Bytes.{AppendsFront}
 use Rattle.program_io.specs.Reading.{WasRead}
 use Rattle.sp_order.specs.Jobs.{JobValue}
@@ -18,7 +19,7 @@ use Rattle.batchrun.specs.declared.status.Status.TheVariants.{Done, Made, Usage,
 -- The bytes that were read are a text of a job, and the report is lawful for this job and this number of workers.
 pub record HasRun (held : Option (List ℕ)) (workers : ℕ) (report : Report) : Type 0 where
   pub bytes : List ℕ
-  pub read : WasRead 1048576 held bytes
+  pub read : WasRead MOST_JOB_BYTES held bytes
   pub job : JobValue
   pub accepted : IsJobOf bytes job
   pub lawful : Lawful job workers report
@@ -44,7 +45,7 @@ pub record IsModelRun (held : Option (List ℕ)) (workers : ℕ) (report : Repor
 -- The bytes that were read have this fault.
 pub record IsRefused (held : Option (List ℕ)) (fault : JobFault) : Type 0 where
   pub bytes : List ℕ
-  pub read : WasRead 1048576 held bytes
+  pub read : WasRead MOST_JOB_BYTES held bytes
   pub why : IsFaultOf bytes fault
 
 -- Whether there is a report, and what out took. `Runs` is what a run owes of its report and of the lines that it prints
@@ -66,7 +67,7 @@ FileCause Done held ReadsFailed WritesFailed = Unit {0}
 FileCause Made held ReadsFailed WritesFailed = ⊥
 FileCause Usage held ReadsFailed WritesFailed = ⊥
 FileCause ReadFault held ReadsFailed WritesFailed = ReadsFailed
-FileCause (Refused TooLong) held ReadsFailed WritesFailed = IfSome held (λ bytes. 1048576 < length bytes)
+FileCause (Refused TooLong) held ReadsFailed WritesFailed = IfSome held (λ bytes. MOST_JOB_BYTES < length bytes)
 FileCause (Refused (Job fault)) held ReadsFailed WritesFailed = IsRefused held fault
 FileCause WriteFault held ReadsFailed WritesFailed = WritesFailed
 FileCause Memory held ReadsFailed WritesFailed = Unit {0}
@@ -86,11 +87,11 @@ IsUnlessMemory status wanted = (status ≡ wanted) ⊎ (status ≡ Memory)
 -- that the bytes call for, unless memory runs out.
 pub record FileCompletes (status : Status) (held : Option (List ℕ)) (ReadsFailed WritesFailed : Type 0) : Type 0 where
   pub too_long : (bytes : List ℕ) → held ≡ Some bytes → ¬ ReadsFailed
-      → 1048576 < length bytes → IsUnlessMemory status (Refused TooLong)
+      → MOST_JOB_BYTES < length bytes → IsUnlessMemory status (Refused TooLong)
   pub refused : (bytes : List ℕ) (fault : JobFault) → held ≡ Some bytes → ¬ ReadsFailed
-      → length bytes ≤ 1048576 → IsFaultOf bytes fault → IsUnlessMemory status (Refused (Job fault))
+      → length bytes ≤ MOST_JOB_BYTES → IsFaultOf bytes fault → IsUnlessMemory status (Refused (Job fault))
   pub accepted : (bytes : List ℕ) (job : JobValue) → held ≡ Some bytes → ¬ ReadsFailed → ¬ WritesFailed
-      → length bytes ≤ 1048576 → IsJobOf bytes job → IsUnlessMemory status Done
+      → length bytes ≤ MOST_JOB_BYTES → IsJobOf bytes job → IsUnlessMemory status Done
 
 -- a write fault comes only where the lines of the report are longer than the room that out has left
 abbrev pub FailsPast : (Report → List ℕ → Type 0) → Status → Option Report → ℕ → Type 0
@@ -106,7 +107,7 @@ TextFits job (Some report) room = length (report_text job.names report) ≤ room
 -- the run is done, unless memory runs out.
 abbrev pub IsFileAssured : Status → Option Report → Option (List ℕ) → Bool → ℕ → Type 0
 IsFileAssured status report held never_fails room =
-    (bytes : List ℕ) (job : JobValue) → held ≡ Some bytes → length bytes ≤ 1048576 → IsJobOf bytes job
+    (bytes : List ℕ) (job : JobValue) → held ≡ Some bytes → length bytes ≤ MOST_JOB_BYTES → IsJobOf bytes job
     → IsTrue never_fails → TextFits job report room → IsUnlessMemory status Done
 
 -- the bytes held are known, at most 1,048,576, and a text of a job
@@ -114,5 +115,5 @@ pub record HoldsJob (held : Option (List ℕ)) : Type 0 where
   pub bytes : List ℕ
   pub job : JobValue
   pub told : held ≡ Some bytes
-  pub short : length bytes ≤ 1048576
+  pub short : length bytes ≤ MOST_JOB_BYTES
   pub accepted : IsJobOf bytes job

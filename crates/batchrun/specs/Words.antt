@@ -5,6 +5,7 @@ use Rattle.std.specs.Option.{option_map, option_and_then}
 use Rattle.std.specs.Str.{bytes_eq}
 use Rattle.std.specs.declared.string.String.{String}
 use Rattle.std.specs.declared.alloc.Global.{Global}
+use Rattle.limits.specs.declared.TheConstants.{MOST_TURNS, MOST_WORKERS}
 use Rattle.decimals.specs.Words.{number_between}
 
 -- The commands. `step` runs the job of a file by turns on one thread: first those of the workers that the schedule
@@ -15,9 +16,9 @@ pub data Command : Type 0 where
   run : (file : List ℕ) → (workers : ℕ) → Command
   gen : (size : ℕ) → (seed : ℕ) → (workers : ℕ) → Command
 
--- the number of workers: 1 to 32
+-- the number of workers: from 1 to the most that a run may have
 abbrev pub workers_in : List ℕ → Option ℕ
-workers_in word = number_between 1 32 word
+workers_in word = number_between 1 MOST_WORKERS word
 
 -- the size of a generated job: 1 to 5,000
 abbrev pub size_in : List ℕ → Option ℕ
@@ -27,17 +28,17 @@ size_in word = number_between 1 5000 word
 abbrev pub seed_in : List ℕ → Option ℕ
 seed_in word = number_between 0 18446744073709551615 word
 
--- the value of a digit of base 32: `0` to `9`, and `a` to `v` for 10 to 31; 32, which names no worker, for a byte that
--- is not a digit
+-- the value of a digit: `0` to `9`, and `a` to `v` for 10 to 31; the most workers, which names none, for a byte that is
+-- not a digit
 abbrev pub digit_value : ℕ → ℕ
 digit_value byte =
     if nat_le 48 byte && nat_le byte 57 then byte - 48
     else if nat_le 97 byte && nat_le byte 118 then byte - 87
-    else 32
+    else MOST_WORKERS
 
--- a schedule is at most 65,536 digits, each of which names one of the workers
+-- a schedule is a digit for each of its turns, which names one of the workers
 abbrev pub is_schedule : ℕ → List ℕ → Bool
-is_schedule workers word = nat_le (length word) 65536 && list_all (λ byte. nat_lt (digit_value byte) workers) word
+is_schedule workers word = nat_le (length word) MOST_TURNS && list_all (λ byte. nat_lt (digit_value byte) workers) word
 
 -- the workers that a schedule names
 abbrev pub workers_named : List ℕ → List ℕ

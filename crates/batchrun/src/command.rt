@@ -1,5 +1,6 @@
 //! The command line: the words after the program's name, and the commands that they may be.
 ghost use Rattle.std.specs.Prelude.{◌<◌, ◌≤◌, IsTrue};
+ghost use Rattle.limits.specs.declared.TheConstants.{MOST_WORKERS};
 ghost use Rattle.batchrun.specs.Words.{is_schedule};
 
 mod parser;
@@ -15,7 +16,7 @@ pub(crate) struct StepCommand<'a> {
     /// The workers of the first turns, one digit each.
     pub(crate) schedule: &'a str,
     ghost some_workers: { 0 < workers },
-    ghost few_workers: { workers ≤ 32 },
+    ghost few_workers: { workers ≤ MOST_WORKERS },
     ghost schedule_is: { IsTrue (is_schedule workers schedule.now) },
 }
 
@@ -25,7 +26,7 @@ pub(crate) struct RunCommand<'a> {
     pub(crate) file: &'a str,
     pub(crate) workers: u32,
     ghost some_workers: { 0 < workers },
-    ghost few_workers: { workers ≤ 32 },
+    ghost few_workers: { workers ≤ MOST_WORKERS },
 }
 
 /// A `gen` command: runs a job generated from a size and a seed, with a thread for each worker.
@@ -37,7 +38,7 @@ pub(crate) struct GenCommand {
     ghost some_calls: { 0 < size },
     ghost few_calls: { size ≤ 5000 },
     ghost some_workers: { 0 < workers },
-    ghost few_workers: { workers ≤ 32 },
+    ghost few_workers: { workers ≤ MOST_WORKERS },
 }
 
 /// The command that the words are.

@@ -1,6 +1,7 @@
 //! The run of a job by turns on one thread.
 ghost use Rattle.std.specs.Prelude.{◌<◌, ◌≤◌, IfOk};
 ghost use Rattle.std.specs.List.{AllByRecursion};
+ghost use Rattle.limits.specs.declared.TheConstants.{MOST_WORKERS};
 ghost use Rattle.batch_history.specs.Lawful.{Lawful};
 ghost use Rattle.core_model.specs.Reports.{IsDrivenReport, IsRunReport};
 
@@ -20,7 +21,7 @@ pub fn run_by_turns(
     schedule: &[u32],
 ) -> Result<Report, AllocError>
     requires some_workers { 0 < workers }
-    requires few_workers { workers ≤ 32 }
+    requires few_workers { workers ≤ MOST_WORKERS }
     requires schedule { AllByRecursion (λ worker. worker < workers) schedule.now }
     ensures driven { IfOk result (λ report. IsDrivenReport job.now workers schedule.now report) }
     ensures run { IfOk result (IsRunReport job.now workers) }

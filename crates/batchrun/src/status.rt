@@ -8,7 +8,7 @@ use job_lang::JobFault;
 /// Why a file was refused.
 #[derive(Clone, Copy)]
 pub enum Refusal {
-    /// The file has more than 1,048,576 bytes.
+    /// The file has more bytes than a job may have.
     TooLong,
     /// The bytes of the file are not a job.
     Job(JobFault),

@@ -1,5 +1,6 @@
 //! The lines of a batch, as they are printed.
 ghost use Rattle.std.specs.Prelude.{◌≡◌, ◌++◌, ◌≤◌, length, OnOk, string_bytes};
+ghost use Rattle.limits.specs.declared.TheConstants.{MOST_BATCH_CALLS};
 ghost use Rattle.bulkrun.specs.Text.{kind_words, key_words, answer_words, call_line};
 ghost use Rattle.bulkrun.specs.Code.{call_lines};
 
@@ -67,7 +68,7 @@ pub(crate) fn push_lines(
     calls: &[BulkCall],
     replies: &[Replies],
 ) -> Result<(), AllocError>
-    requires few { length calls.now ≤ 32 }
+    requires few { length calls.now ≤ MOST_BATCH_CALLS }
     requires replies { length replies.now ≡ length calls.now }
     ensures { OnOk result (string_bytes text.new
         ≡ string_bytes text.old ++ call_lines batch 0 calls.now replies.now) }

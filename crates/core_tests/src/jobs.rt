@@ -2,6 +2,7 @@
 ghost use Rattle.std.specs.Prelude.{IfSome, IsSome};
 
 use job_lang::read_job;
+use limits::MOST_JOB_BYTES;
 use sp_order::Job;
 use std::alloc::Global;
 
@@ -9,7 +10,7 @@ use std::alloc::Global;
 pub(crate) fn job_of(alloc: Global, text: &[u8]) -> Option<Job>
     ensures { IfSome result (λ job. IsSome job.shape) }
 {
-    if text.len() > 1_048_576 {
+    if text.len() > MOST_JOB_BYTES {
         return None;
     }
     let job = read_job(alloc, text).ok()?;

@@ -3,6 +3,7 @@ ghost use Rattle.std.specs.Prelude.{◌≡◌, ◌<◌, IfOk};
 
 use crate::jobs::job_of;
 use batcher_core::{Core, Doing, Spun, Turn};
+use limits::MOST_WORKERS;
 use std::alloc::{AllocError, Global};
 use std::test::Fail;
 use test_rows::all_hold;
@@ -67,7 +68,7 @@ fn is_run_so(alloc: Global, text: &[u8], workers: u32, marks: &str) -> Result<bo
     let Some(job) = job_of(alloc, text) else {
         return Ok(false);
     };
-    if workers == 0 || 32 < workers {
+    if workers == 0 || MOST_WORKERS < workers {
         return Ok(false);
     }
     let mut core = Core::start(alloc, &job, workers)?;

@@ -1,5 +1,6 @@
 //! The lines of a batch, as they are printed.
 ghost use Rattle.std.specs.Prelude.{◌≡◌, ◌++◌, ◌≤◌, length, OnOk, string_bytes};
+ghost use Rattle.limits.specs.declared.TheConstants.{MOST_BATCH_CALLS};
 ghost use Rattle.seq_objects.specs.Words.{reply_words};
 ghost use Rattle.queuerun.specs.Text.{call_words, call_line};
 ghost use Rattle.queuerun.specs.Code.{call_lines};
@@ -68,7 +69,7 @@ pub(crate) fn push_lines(
     calls: &[FifoCall],
     replies: &[Reply],
 ) -> Result<(), AllocError>
-    requires few { length calls.now ≤ 32 }
+    requires few { length calls.now ≤ MOST_BATCH_CALLS }
     requires replies { length replies.now ≡ length calls.now }
     ensures { OnOk result (string_bytes text.new
         ≡ string_bytes text.old ++ call_lines batch 0 calls.now replies.now) }

@@ -5,6 +5,7 @@ ghost use Rattle.word_counts.specs.declared.parts.Part.{Part as PartOf};
 ghost use Rattle.word_counts.specs.Words.{is_white_space, ended, words_of};
 ghost use Rattle.word_counts.specs.Counts.{entries_of, counts_of};
 ghost use Rattle.std.specs.List.{between};
+ghost use Rattle.limits.specs.declared.TheConstants.{MOST_WORKERS};
 
 use crate::counts::WordCounts;
 use crate::parts::{Part, parts_of};
@@ -131,7 +132,7 @@ pub fn count_in_threads<R: Wait + Threads + Sync>(
     text: &[u8],
     threads: usize,
 ) -> Result<WordCounts, AllocError>
-    requires threads { (1 ≤ threads) × (threads ≤ 32) }
+    requires threads { (1 ≤ threads) × (threads ≤ MOST_WORKERS) }
     ensures { IfOk result (λ counts. entries_of counts ≡ counts_of text.now) }
 {
     let (counts, callers) = Shared::share(alloc, WordCounts::new(alloc), threads)?;

@@ -1,5 +1,6 @@
 //! A map of words with their counts, which threads can share.
 ghost use Rattle.std.specs.Prelude.{◌≡◌, ◌+◌, ◌≤◌, ◌++◌, ⊤, [], length, IfOk, OnOk, OnErr};
+ghost use Rattle.limits.specs.declared.TheConstants.{MOST_WORKERS};
 ghost use Rattle.shared_calls.specs.Serial.{IsServedInSomeOrder};
 ghost use Rattle.word_counts.specs.Counts.{tally, entries_of, counted, count_in, line_of, lines_of};
 
@@ -75,7 +76,7 @@ impl Combined for WordCounts {
     ghost fails = { λ counts words. ⊤ };
 
     fn serve(self, alloc: Global, ops: Vec<Vec<u8>>) -> Result<(WordCounts, Vec<u64>), AllocError>
-        requires few { length ops.items ≤ 32 }
+        requires few { length ops.items ≤ MOST_WORKERS }
         ensures served { IfOk result (λ p. IsServedInSomeOrder tally (entries_of self) ops.items p.1.items (entries_of p.0)) }
     {
         let mut counts = self;

@@ -4,6 +4,7 @@ use Rattle.std.specs.List.{starts_with}
 use Rattle.std.specs.Str.{bytes_eq}
 use Rattle.std.specs.declared.string.String.{String}
 use Rattle.std.specs.declared.alloc.Global.{Global}
+use Rattle.limits.specs.declared.TheConstants.{MOST_WORKERS}
 use Rattle.decimals.specs.Words.{is_number_between}
 
 -- the file that a word names, if the word is not empty and does not begin with `--`; `-` names standard input
@@ -12,7 +13,7 @@ named_file file = if bytes_eq file [] || starts_with nat_eq file (codes "--") th
 
 -- the file that the words name, if there are two words, and the second is a decimal from 1 to 32
 abbrev pub file_of : List (List ℕ) → Option (List ℕ)
-file_of (file ∷ threads ∷ []) = if is_number_between 1 32 threads then named_file file else None
+file_of (file ∷ threads ∷ []) = if is_number_between 1 MOST_WORKERS threads then named_file file else None
 file_of _ = None
 
 -- the bytes of words

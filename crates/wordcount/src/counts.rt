@@ -1,5 +1,6 @@
 //! The counts of a file: it is read, its words are counted, and the lines of the counts are made.
 ghost use Rattle.std.specs.Prelude.{◌≡◌, ◌≤◌, Err, IfOk, IfErr, IsTrue, IsSome};
+ghost use Rattle.limits.specs.declared.TheConstants.{MOST_WORKERS};
 ghost use Rattle.bt_io.specs.Causes.{Rose};
 ghost use Rattle.word_counts.specs.Counts.{counts_of, lines_of};
 ghost use Rattle.wordcount.specs.Outcomes.{AreCounts};
@@ -24,7 +25,7 @@ fn counted<R: Wait + Threads + Sync>(
     text: &[u8],
     threads: usize,
 ) -> Result<Vec<u8>, AllocError>
-    requires threads { (1 ≤ threads) × (threads ≤ 32) }
+    requires threads { (1 ≤ threads) × (threads ≤ MOST_WORKERS) }
     ensures { IfOk result (λ lines. lines.items ≡ lines_of (counts_of text.now)) }
 {
     let counts = count_in_threads(rt, alloc, text, threads)?;
@@ -39,7 +40,7 @@ pub(crate) fn count_file<R: Wait + Threads + Sync, I: Shelf>(
     shelf: &mut I,
 ) -> Result<Vec<u8>, CountStatus>
     requires may { IsTrue (I.may shelf.old count.now.file.now) }
-    requires threads { (1 ≤ count.now.threads) × (count.now.threads ≤ 32) }
+    requires threads { (1 ≤ count.now.threads) × (count.now.threads ≤ MOST_WORKERS) }
     ensures ok { IfOk result (λ lines. AreCounts (I.held shelf.old count.now.file.now) lines.items) }
     ensures err { IfErr result (λ status. StopsCounting status (I.held shelf.old count.now.file.now)
         (Rose (I.faults shelf.old) (I.faults shelf.new))) }

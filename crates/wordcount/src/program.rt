@@ -1,6 +1,7 @@
 //! The whole program: from the words and a shelf to the counts.
 ghost use Rattle.std.specs.Prelude.{◌≡◌, ◌↔◌, ◌≤◌, IsNone, IsTrue, IsSome};
 ghost use Rattle.std.specs.Option.{ForSome};
+ghost use Rattle.limits.specs.declared.TheConstants.{MOST_WORKERS};
 ghost use Rattle.bt_io.specs.Causes.{Rose};
 ghost use Rattle.program_io.specs.Lines.{Tells};
 ghost use Rattle.wordcount.specs.Words.{file_of, spelled, MayRead};
@@ -26,7 +27,7 @@ fn write_counts<R: Wait + Threads + Sync, I: Shelf, O: Sink>(
     out: &mut O,
 ) -> CountStatus
     requires may { IsTrue (I.may shelf.old count.now.file.now) }
-    requires threads { (1 ≤ count.now.threads) × (count.now.threads ≤ 32) }
+    requires threads { (1 ≤ count.now.threads) × (count.now.threads ≤ MOST_WORKERS) }
     ensures prints { Prints (AreCounts (I.held shelf.old count.now.file.now)) result
         (O.taken out.old) (O.taken out.new) }
     ensures cause { HasCause (I.held shelf.old count.now.file.now) result

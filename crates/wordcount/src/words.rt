@@ -1,10 +1,12 @@
 //! The words of the command line: the file whose words are counted, and the number of threads.
 ghost use Rattle.std.specs.Prelude.{◌≡◌, ◌≤◌, IfSome};
 ghost use Rattle.std.specs.Option.{option_map};
+ghost use Rattle.limits.specs.declared.TheConstants.{MOST_WORKERS};
 ghost use Rattle.wordcount.specs.Words.{file_of, spelled};
 ghost use Rattle.wordcount.specs.Code.{file_in};
 
 use decimals::number_between;
+use limits::MOST_WORKERS;
 
 /// The file whose words are counted, and in how many threads.
 #[derive(Clone, Copy)]
@@ -17,12 +19,12 @@ pub(crate) struct Count<'a> {
 /// a decimal from 1 to 32.
 pub(crate) fn count_in(words: &[String]) -> Option<Count<'_>>
     ensures file { option_map file_in result ≡ file_of (spelled words.now) }
-    ensures threads { IfSome result (λ count. (1 ≤ count.threads) × (count.threads ≤ 32)) }
+    ensures threads { IfSome result (λ count. (1 ≤ count.threads) × (count.threads ≤ MOST_WORKERS)) }
 {
     let [file, threads] = words else {
         return None;
     };
-    let threads = number_between(threads.as_str().as_bytes(), 1, 32)?;
+    let threads = number_between(threads.as_str().as_bytes(), 1, u64::from(MOST_WORKERS))?;
     let file = file.as_str();
     if file.is_empty() || file.as_bytes().starts_with(b"--") {
         return None;

@@ -5,6 +5,7 @@ use Rattle.std.proofs.lemmas.List.{drop_all}
 use Rattle.std.specs.List.{AllByRecursion, list_all}
 use Rattle.std.proofs.lemmas.Bool.{and_parts, ltb-true}
 use Rattle.batchrun.specs.Words.{digit_value, is_schedule, workers_named}
+use Rattle.limits.specs.declared.TheConstants.{MOST_TURNS}
 
 all_below : (workers : ℕ) (word : List ℕ) → IsTrue (list_all (λ byte. nat_lt (digit_value byte) workers) word) → AllByRecursion (λ worker. worker < workers) (workers_named word)
 all_below workers [] names = tt
@@ -14,7 +15,7 @@ all_below workers (byte ∷ word) names =
 
 -- each worker of a schedule is below `workers`
 pub scheduled_below : (workers : ℕ) (word : List ℕ) → IsTrue (is_schedule workers word) → AllByRecursion (λ worker. worker < workers) (workers_named word)
-scheduled_below workers word is = all_below workers word (and_parts (nat_le (length word) 65536) (list_all (λ byte. nat_lt (digit_value byte) workers) word) is).1
+scheduled_below workers word is = all_below workers word (and_parts (nat_le (length word) MOST_TURNS) (list_all (λ byte. nat_lt (digit_value byte) workers) word) is).1
 
 -- after the last digit all workers are named
 pub all_named : (so_far word : List ℕ) (at : ℕ) → length word ≤ at → so_far ++ workers_named (drop at word) ≡ workers_named word → so_far ≡ workers_named word

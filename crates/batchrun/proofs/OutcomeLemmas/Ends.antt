@@ -21,6 +21,7 @@ use Rattle.job_syntax.specs.declared.fault.JobFault.{JobFault}
 use Rattle.batchrun.specs.declared.status.Refusal.TheVariants.{TooLong, Job}
 use Rattle.batchrun.specs.declared.status.Status.{Status}
 use Rattle.batchrun.specs.declared.status.Status.TheVariants.{Done, Made, Usage, ReadFault, Refused, WriteFault, Memory}
+use Rattle.limits.specs.declared.TheConstants.{MOST_JOB_BYTES}
 
 -- the calls of a lawful report are on objects without a name or with one of the job's names
 abbrev pub NamesItsObjects : Type 0
@@ -79,7 +80,7 @@ models held workers job run status report old new has lawful model line =
     report_owes (IsModelRun held workers) run (report_text job.names) status report old new (model_of held workers job run has lawful model) line
 
 -- where the bytes held are known, they are the bytes that were read
-same_bytes : (held : Option (List ℕ)) (told bytes : List ℕ) → WasRead 1048576 held bytes → held ≡ Some told → bytes ≡ told
+same_bytes : (held : Option (List ℕ)) (told bytes : List ℕ) → WasRead MOST_JOB_BYTES held bytes → held ≡ Some told → bytes ≡ told
 same_bytes None told bytes read is = cc
 same_bytes (Some xs) told bytes read is = let same : xs ≡ told = cc in read.whole ∙ same
 
@@ -91,10 +92,10 @@ abbrev pub OneFault : Type 0
 OneFault = (text : List ℕ) (fault fault' : JobFault) → IsFaultOf text fault → IsFaultOf text fault' → fault ≡ fault'
 
 -- a job of the bytes held is a job of the bytes that were read
-job_read : (held : Option (List ℕ)) (told bytes : List ℕ) (job : JobValue) → WasRead 1048576 held bytes → held ≡ Some told → IsJobOf told job → IsJobOf bytes job
+job_read : (held : Option (List ℕ)) (told bytes : List ℕ) (job : JobValue) → WasRead MOST_JOB_BYTES held bytes → held ≡ Some told → IsJobOf told job → IsJobOf bytes job
 job_read held told bytes job read is accepted = subst (λ text. IsJobOf text job) (sym (same_bytes held told bytes read is)) accepted
 
-told_short : (told xs : List ℕ) → Some told ≡ Some xs → 1048576 < length told → length xs ≤ 1048576 → ⊥
+told_short : (told xs : List ℕ) → Some told ≡ Some xs → MOST_JOB_BYTES < length told → length xs ≤ MOST_JOB_BYTES → ⊥
 told_short told xs is long short = let same : told ≡ xs = cc in omega (arith, ap length same)
 
 -- a text is a text of one job at most
@@ -127,21 +128,21 @@ is_assured one_job no_fault (Refused (Job fault)) report held workers R W old ne
     absurd (no_fault why.bytes job fault (job_read held told why.bytes job why.read is accepted) why.why)
 
 -- a fault of the bytes held is a fault of the bytes that were read
-fault_read : (held : Option (List ℕ)) (told bytes : List ℕ) (fault : JobFault) → WasRead 1048576 held bytes → held ≡ Some told → IsFaultOf told fault → IsFaultOf bytes fault
+fault_read : (held : Option (List ℕ)) (told bytes : List ℕ) (fault : JobFault) → WasRead MOST_JOB_BYTES held bytes → held ≡ Some told → IsFaultOf told fault → IsFaultOf bytes fault
 fault_read held told bytes fault read is has = subst (λ text. IsFaultOf text fault) (sym (same_bytes held told bytes read is)) has
 
 -- known bytes within the limit are not refused as too long
-too_long_held : (held : Option (List ℕ)) (told : List ℕ) → held ≡ Some told → IfSome held (λ bytes. 1048576 < length bytes) → length told ≤ 1048576 → ⊥
+too_long_held : (held : Option (List ℕ)) (told : List ℕ) → held ≡ Some told → IfSome held (λ bytes. MOST_JOB_BYTES < length bytes) → length told ≤ MOST_JOB_BYTES → ⊥
 too_long_held None told is long short = cc
 too_long_held (Some xs) told is long short = let same : xs ≡ told = cc in omega (arith, ap length same, long, short)
 
 -- bytes that were read to the end are not too many
-read_short : (held : Option (List ℕ)) (told bytes : List ℕ) → WasRead 1048576 held bytes → held ≡ Some told → 1048576 < length told → ⊥
+read_short : (held : Option (List ℕ)) (told bytes : List ℕ) → WasRead MOST_JOB_BYTES held bytes → held ≡ Some told → MOST_JOB_BYTES < length told → ⊥
 read_short held told bytes read is long = omega (arith, read.short, long, ap length (same_bytes held told bytes read is))
 
 -- a file that is too long is refused as such, unless memory runs out
 too_long_ends : (status : Status) (report : Option Report) (held : Option (List ℕ)) (workers : ℕ) (R W : Type 0) (old new : Option (List ℕ)) (told : List ℕ)
-    → FileCause status held R W → Prints (PrintsRun held workers) status report old new → held ≡ Some told → ¬ R → 1048576 < length told → IsUnlessMemory status (Refused TooLong)
+    → FileCause status held R W → Prints (PrintsRun held workers) status report old new → held ≡ Some told → ¬ R → MOST_JOB_BYTES < length told → IsUnlessMemory status (Refused TooLong)
 too_long_ends Done None held workers R W old new told why line is calm long = absurd line
 too_long_ends Done (Some report) held workers R W old new told why line is calm long = absurd (read_short held told line.1.run.bytes line.1.run.read is long)
 too_long_ends Memory report held workers R W old new told why line is calm long = inr refl
@@ -155,7 +156,7 @@ too_long_ends (Refused (Job fault)) report held workers R W old new told why lin
 
 -- a file with a fault is refused for it, unless memory runs out
 fault_ends : NoFault → OneFault → (status : Status) (report : Option Report) (held : Option (List ℕ)) (workers : ℕ) (R W : Type 0) (old new : Option (List ℕ)) (told : List ℕ) (fault : JobFault)
-    → FileCause status held R W → Prints (PrintsRun held workers) status report old new → held ≡ Some told → ¬ R → length told ≤ 1048576 → IsFaultOf told fault → IsUnlessMemory status (Refused (Job fault))
+    → FileCause status held R W → Prints (PrintsRun held workers) status report old new → held ≡ Some told → ¬ R → length told ≤ MOST_JOB_BYTES → IsFaultOf told fault → IsUnlessMemory status (Refused (Job fault))
 fault_ends no_fault one_fault Done None held workers R W old new told fault why line is calm short has = absurd line
 fault_ends no_fault one_fault Done (Some report) held workers R W old new told fault why line is calm short has =
     let run = line.1.run in
@@ -174,7 +175,7 @@ fault_ends no_fault one_fault (Refused (Job found)) report held workers R W old 
 
 -- an accepted job is done where no write fails, unless memory runs out
 job_ends : NoFault → (status : Status) (held : Option (List ℕ)) (R W : Type 0) (told : List ℕ) (job : JobValue)
-    → FileCause status held R W → held ≡ Some told → ¬ R → ¬ W → length told ≤ 1048576 → IsJobOf told job → IsUnlessMemory status Done
+    → FileCause status held R W → held ≡ Some told → ¬ R → ¬ W → length told ≤ MOST_JOB_BYTES → IsJobOf told job → IsUnlessMemory status Done
 job_ends no_fault Done held R W told job why is calm calm' short accepted = inl refl
 job_ends no_fault Memory held R W told job why is calm calm' short accepted = inr refl
 job_ends no_fault Made held R W told job why is calm calm' short accepted = absurd why

@@ -7,12 +7,13 @@ ghost use Rattle.batchrun.specs.Code.Commands.{command_in, step_in, run_in, gen_
 use crate::command::schedule::is_schedule;
 use crate::command::{Command, GenCommand, RunCommand, StepCommand};
 use decimals::number_between;
+use limits::MOST_WORKERS;
 
-/// The number of workers that a word gives, from 1 to 32.
+/// The number of workers that a word gives.
 fn workers_asked(word: &str) -> Option<u32>
     ensures { result ≡ workers_in word.now }
 {
-    number_between(word.as_bytes(), 1, 32).map(|workers| workers as u32)
+    number_between(word.as_bytes(), 1, u64::from(MOST_WORKERS)).map(|workers| workers as u32)
 }
 
 /// The size of a generated job that a word gives, from 1 to 5,000.

@@ -1,22 +1,20 @@
-//! The schedule word: one digit of base 32 for each turn.
+//! The schedule word: one digit for each turn.
 ghost use Rattle.std.specs.Prelude.{◌≡◌, ◌<◌, IfOk, IsTrue, nat_lt};
 ghost use Rattle.std.specs.List.{AllByRecursion, list_all};
 ghost use Rattle.batchrun.specs.Words.{digit_value, is_schedule, workers_named};
 
 use crate::command::StepCommand;
+use limits::{MOST_TURNS, MOST_WORKERS};
 use std::alloc::{AllocError, Global};
 
-/// The most turns that a schedule may list, one byte each.
-const MOST_TURNS: usize = 65_536;
-
-/// The value of a digit of base 32; 32 for a byte that is not a digit.
+/// The value of a digit; for a byte that is not a digit the most workers, which names none.
 fn digit_value(byte: u8) -> u32
     ensures { result ≡ digit_value byte }
 {
     match byte {
         b'0'..=b'9' => u32::from(byte - b'0'),
         b'a'..=b'v' => u32::from(byte - b'a') + 10,
-        _ => 32,
+        _ => MOST_WORKERS,
     }
 }
 

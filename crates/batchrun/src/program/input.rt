@@ -7,12 +7,10 @@ ghost use Rattle.batchrun.specs.Code.Reading.{HasJob, EndsReading};
 use crate::status::{Refusal, Status};
 use bt_io::{ReadErr, Shelf};
 use job_lang::{JobErr, read_job};
+use limits::MOST_JOB_BYTES;
 use program_io::read_file;
 use sp_order::Job;
 use std::alloc::Global;
-
-/// The most bytes that a job's file may have.
-const MOST_BYTES: usize = 1_048_576;
 
 /// Reads the job of a file. The error is the status with which the run then ends.
 pub(crate) fn read_job_of<I: Shelf>(alloc: Global, shelf: &mut I, file: &str) -> Result<Job, Status>
@@ -26,7 +24,7 @@ pub(crate) fn read_job_of<I: Shelf>(alloc: Global, shelf: &mut I, file: &str) ->
         → result ≡ Err Status.ReadFault
         → ⊥ }
 {
-    let bytes = match read_file(alloc, shelf, file, MOST_BYTES) {
+    let bytes = match read_file(alloc, shelf, file, MOST_JOB_BYTES) {
         Ok(bytes) => bytes,
         Err(ReadErr::Failed) => return Err(Status::ReadFault),
         Err(ReadErr::TooLong) => return Err(Status::Refused(Refusal::TooLong)),

@@ -16,10 +16,8 @@ fn push_top(text: &mut Vec<u8>, width: u64, height: u64) -> Result<(), AllocErro
     push_number(text, b"\" height=\"", height)?;
     push_number(text, b"\" viewBox=\"0 0 ", width)?;
     push_number(text, b" ", height)?;
-    push_text(
-        text,
-        b"\" fill=\"#1b1f24\" font-family=\"sans-serif\" font-size=\"13\">",
-    )
+    let style = b"\" fill=\"#1b1f24\" font-family=\"sans-serif\" font-size=\"13\">";
+    push_text(text, style)
 }
 
 /// Appends the front of the document, with its ground.
@@ -131,13 +129,8 @@ pub(crate) fn push_ticks(
     let step = (2 * leaves + 1) / 8 + 1;
     for mark in 0..8 {
         let tick = mark * step;
-        push_mark(
-            text,
-            across(scale, tick),
-            foot,
-            tick as u64,
-            (2 * leaves) as u64,
-        )?;
+        let left = across(scale, tick);
+        push_mark(text, left, foot, tick as u64, (2 * leaves) as u64)?;
     }
     Ok(())
 }

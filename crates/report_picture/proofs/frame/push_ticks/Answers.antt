@@ -11,6 +11,6 @@ loop-mark-preserved c =
     let line : ℕ → List ℕ = λ mark. mark_text (across c.args.scale (tick mark)) c.args.foot (tick mark) (2 * c.args.leaves) in
     let n = c.loop-mark.mark in
     c.in_ok-push_mark.ensures
-    ∙ (ap (λ left. c.loop-mark.text.items ++ mark_text left c.args.foot (tick n) (2 * c.args.leaves)) c.across.ensures
+    ∙ (ap (λ left. c.loop-mark.text.items ++ mark_text left c.args.foot (tick n) (2 * c.args.leaves)) c.across-left.ensures
     ∙ (ap (λ t. t ++ line n) c.loop-mark.invariant
     ∙ (append_assoc c.args.text.now.items (flat_map line (range_with_len 0 n)) (line n) ∙ ap (λ t. c.args.text.now.items ++ t) (sym (flat_more line n)))))

@@ -3,6 +3,7 @@
 use Rattle.std.specs.Prelude.{◌≡◌, ℕ, ◌<◌, ◌≤◌, ◌⊎◌, List, length, Bool, IsTrue, Option, None, Some, IfSome}
 use Rattle.std.specs.Io.KnownBytes.{Appends, Keeps}
 use Rattle.bt_io.specs.Bytes.{AppendsFront}
+use Rattle.limits.specs.declared.TheConstants.{MOST_REPORT_BYTES}
 use Rattle.program_io.specs.Reading.{WasRead}
 use Rattle.report_reader.specs.Texts.{Named, HasNamedText}
 use Rattle.report_reader.specs.Stops.{StopsAt}
@@ -21,7 +22,7 @@ pub record Pictures (text drawn : List ℕ) : Type 0 where
 -- these are the picture of the report whose text was read
 pub record IsPicture (held : Option (List ℕ)) (drawn : List ℕ) : Type 0 where
   pub text : List ℕ
-  pub read : WasRead 8388608 held text
+  pub read : WasRead MOST_REPORT_BYTES held text
   pub pictures : Pictures text drawn
 
 -- the same for the file that the words name; words that name none have no picture
@@ -43,13 +44,13 @@ HasNoReport text = (named : Named) → HasNamedText text named → ⊥
 -- report's behind those before it
 pub record IsRefused (held : Option (List ℕ)) (line : ℕ) : Type 0 where
   pub text : List ℕ
-  pub read : WasRead 8388608 held text
+  pub read : WasRead MOST_REPORT_BYTES held text
   pub none : HasNoReport text
   pub stops : StopsAt text line
 
 -- why the file is refused
 abbrev pub Refuses : Option (List ℕ) → ViewRefusal → Type 0
-Refuses held TooLong = IfSome held (λ text. 8388608 < length text)
+Refuses held TooLong = IfSome held (λ text. MOST_REPORT_BYTES < length text)
 Refuses held (NoReport line) = IsRefused held line
 
 -- Why a status comes where there is a file: by the bytes held, and by whether the fault count of the shelf or of out
@@ -74,15 +75,15 @@ IsNoReportUnlessMemory ended = ((line : ℕ) × (ended ≡ status.Refused (NoRep
 -- the bytes call for, unless memory runs out.
 pub record Completes (held : Option (List ℕ)) (ended : ViewStatus) (ReadsFailed WritesFailed : Type 0) : Type 0 where
   pub too_long : (text : List ℕ) → held ≡ Some text → ¬ ReadsFailed
-      → 8388608 < length text → IsUnlessMemory ended (status.Refused TooLong)
+      → MOST_REPORT_BYTES < length text → IsUnlessMemory ended (status.Refused TooLong)
   pub no_report : (text : List ℕ) → held ≡ Some text → ¬ ReadsFailed
-      → length text ≤ 8388608 → HasNoReport text → IsNoReportUnlessMemory ended
+      → length text ≤ MOST_REPORT_BYTES → HasNoReport text → IsNoReportUnlessMemory ended
   pub drawn : (text : List ℕ) (named : Named) → held ≡ Some text → ¬ ReadsFailed → ¬ WritesFailed
-      → length text ≤ 8388608 → HasNamedText text named → IsUnlessMemory ended status.Done
+      → length text ≤ MOST_REPORT_BYTES → HasNamedText text named → IsUnlessMemory ended status.Done
 
 -- Where the shelf never fails and holds the text of a report, and its picture is within the room that out has left, the
 -- picture is drawn, unless memory runs out.
 abbrev pub IsAssured : Option (List ℕ) → ViewStatus → Bool → ℕ → Type 0
 IsAssured held ended never_fails room =
-    (text : List ℕ) (named : Named) → held ≡ Some text → length text ≤ 8388608 → HasNamedText text named
+    (text : List ℕ) (named : Named) → held ≡ Some text → length text ≤ MOST_REPORT_BYTES → HasNamedText text named
     → IsTrue never_fails → length (picture named.names named.report) ≤ room → IsUnlessMemory ended status.Done

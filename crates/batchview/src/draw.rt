@@ -1,5 +1,6 @@
 //! The drawing of a report: its file is read, and its picture is made.
 ghost use Rattle.std.specs.Prelude.{◌≡◌, ◌≤◌, ◌<◌, length, IfOk, IfErr, IsTrue, IsSome};
+ghost use Rattle.limits.specs.declared.TheConstants.{MOST_REPORT_BYTES};
 ghost use Rattle.program_io.specs.Lines.{told_text};
 ghost use Rattle.batchview.specs.Outcomes.{IsPicture, Refuses, Pictures};
 ghost use Rattle.batchview.specs.Code.{end_line, StopsDrawing};
@@ -7,17 +8,15 @@ ghost use Rattle.batchview.specs.Code.{end_line, StopsDrawing};
 use crate::status::{ViewRefusal, status_of};
 use crate::words::View;
 use bt_io::{ReadErr, Shelf};
+use limits::MOST_REPORT_BYTES;
 use program_io::{End, Line, Program, Stop, read_file};
 use report_picture::picture;
 use report_reader::{ReadReportErr, read_alone, stops_at};
 use std::alloc::{AllocError, Global};
 
-/// The most bytes that a report's file may have.
-const MOST_REPORT_BYTES: usize = 8_388_608;
-
 /// Draws the report of a text.
 fn draw(alloc: Global, text: &[u8]) -> Result<Vec<u8>, Stop<ViewRefusal>>
-    requires { length text.now ≤ 8388608 }
+    requires { length text.now ≤ MOST_REPORT_BYTES }
     ensures ok { IfOk result (λ drawn. Pictures text.now drawn.items) }
     ensures err { IfErr result (λ stop. StopsDrawing stop text.now) }
 {

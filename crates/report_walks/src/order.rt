@@ -1,5 +1,6 @@
 //! Whether the rows keep the order of a job: one walk over its shape, and one over the ticks.
 ghost use Rattle.std.specs.Prelude.{◌≡◌, ◌↔◌, ℕ, ◌<◌, ◌≤◌, ◌+◌, [], length, IsTrue, IfSome, IfNone, IfOk, min, max};
+ghost use Rattle.limits.specs.declared.TheConstants.{MOST_WORKERS};
 ghost use Rattle.sp_order.specs.Jobs.{IsJob};
 ghost use Rattle.sp_order.specs.Precedence.{tree_of, leaves, leaf_count, IsBefore};
 ghost use Rattle.batch_history.specs.Lawful.{ForRows, HasRows, KeepsOrder};
@@ -7,6 +8,7 @@ ghost use Rattle.report_walks.specs.Parts.{report_of, of_rows};
 ghost use Rattle.report_walks.specs.Code.Spans.{KeepsBefore, KeepsAlone, IsSpanOf, AreStarts, AreTimed};
 
 use batch_history::Row;
+use limits::MOST_WORKERS;
 use sp_order::{Job, Shape};
 use std::alloc::{AllocError, Global};
 
@@ -86,7 +88,7 @@ fn are_alone(rows: &[Row], started: &[Option<u32>]) -> bool
     requires starts { AreStarts rows.now started.now }
     ensures { IsTrue result ↔ KeepsAlone rows.now }
 {
-    let mut free_from = [0u64; 32];
+    let mut free_from = [0u64; MOST_WORKERS as usize];
     for (tick, leaf) in started.iter().enumerate() {
         if let Some(leaf) = leaf {
             let row = rows[*leaf as usize];
@@ -117,7 +119,7 @@ fn keeps_before(job: &Job, rows: &[Row]) -> bool
 ///
 /// Memory: linear in the leaves.
 pub fn keeps_order(alloc: Global, job: &Job, rows: &[Row]) -> Result<bool, AllocError>
-    requires { (workers : ℕ) × (workers ≤ 32)
+    requires { (workers : ℕ) × (workers ≤ MOST_WORKERS)
         × HasRows job.now workers (report_of workers [] rows.now) }
     ensures { IfOk result (λ keeps. IsTrue keeps ↔ KeepsOrder job.now (of_rows rows.now)) }
 {

@@ -1,5 +1,6 @@
 -- What the walks over the shape and over the ticks keep: the span of a part of a shape, and where each leaf starts.
 use Rattle.std.specs.Prelude.{◌≡◌, ◌≢◌, ℕ, ◌+◌, ◌*◌, ◌<◌, ◌≤◌, ◌⊎◌, List, length, slice_get, Some, Option}
+use Rattle.limits.specs.declared.TheConstants.{MOST_LEAVES, MOST_WORKERS}
 use Rattle.sp_order.specs.Precedence.{Tree, leaves, IsLeafOf, IsBeforeFrom}
 use Rattle.batch_history.specs.Lawful.{ForRows}
 use Rattle.batch_history.specs.declared.row.Row.{Row}
@@ -30,11 +31,11 @@ pub record AreStarts (rows : List Row) (started : List (Option ℕ)) : Type 0 wh
   pub each : (u : ℕ) (row : Row) → IsRow rows u row → slice_get started row.start ≡ Some (Some u)
   pub only : (tick u : ℕ) → slice_get started tick ≡ Some (Some u) → (row : Row) × IsRow rows u row × (row.start ≡ tick)
 
--- What right rows keep: there are at most 20,000, the workers are below 32, each row starts before it ends, the ends
--- are below twice the rows, and no two leaves start at one tick.
+-- What right rows keep: there are no more than the most leaves, the workers are below the most workers, each row starts
+-- before it ends, the ends are below twice the rows, and no two leaves start at one tick.
 pub record AreTimed (rows : List Row) : Type 0 where
-  pub few : length rows ≤ 20000
-  pub workers : (u : ℕ) (row : Row) → IsRow rows u row → row.worker < 32
+  pub few : length rows ≤ MOST_LEAVES
+  pub workers : (u : ℕ) (row : Row) → IsRow rows u row → row.worker < MOST_WORKERS
   pub starts_first : (u : ℕ) (row : Row) → IsRow rows u row → row.start < row.end
   pub small : (u : ℕ) (row : Row) → IsRow rows u row → row.end < 2 * length rows
   pub apart : (u v : ℕ) (row row' : Row) → u ≢ v → IsRow rows u row → IsRow rows v row' → row.start ≢ row'.start

@@ -1,5 +1,6 @@
 //! The places of the leaves of a text.
 ghost use Rattle.std.specs.Prelude.{◌≡◌, ◌≤◌, IfOk, length};
+ghost use Rattle.limits.specs.declared.TheConstants.{MOST_JOB_BYTES};
 ghost use Rattle.job_syntax.specs.ItemsOf.{AreItemsOf};
 ghost use Rattle.job_syntax.specs.Views.{items_of};
 ghost use Rattle.job_syntax.specs.Words.{words_on_lines};
@@ -13,7 +14,7 @@ use std::alloc::{AllocError, Global};
 
 /// The lines of the words of a text.
 fn lines_in(alloc: Global, text: &[u8]) -> Result<Vec<u32>, AllocError>
-    requires short { length text.now ≤ 1048576 }
+    requires short { length text.now ≤ MOST_JOB_BYTES }
     ensures { IfOk result (λ lines. lines.items ≡ lines_of (words_on_lines text.now)) }
 {
     let mut words = Cursor::new(text);
@@ -26,7 +27,7 @@ fn lines_in(alloc: Global, text: &[u8]) -> Result<Vec<u32>, AllocError>
 
 /// The items of an accepted text.
 fn items_in(alloc: Global, text: &[u8]) -> Result<Vec<Item>, AllocError>
-    requires short { length text.now ≤ 1048576 }
+    requires short { length text.now ≤ MOST_JOB_BYTES }
     requires accepted { Accepts text.now }
     ensures { IfOk result (λ items. AreItemsOf (words_on_lines text.now) (items_of items.items)) }
 {
@@ -41,7 +42,7 @@ fn items_in(alloc: Global, text: &[u8]) -> Result<Vec<Item>, AllocError>
 ///
 /// Time: linear in the text, and in the leaves times the loops around each.
 pub fn places_in(alloc: Global, text: &[u8]) -> Result<Vec<LeafPlace>, AllocError>
-    requires short { length text.now ≤ 1048576 }
+    requires short { length text.now ≤ MOST_JOB_BYTES }
     requires accepted { Accepts text.now }
     ensures { IfOk result (λ places. ArePlacesIn text.now places.items) }
 {

@@ -1,5 +1,6 @@
 //! The rows of a job's leaves: where each stands in the text, and what it does.
 ghost use Rattle.std.specs.Prelude.{◌≡◌, ◌<◌, ◌≤◌, ◌++◌, length, map, IfOk, IfSome, OnOk, string_bytes};
+ghost use Rattle.limits.specs.declared.TheConstants.{MOST_JOB_BYTES};
 ghost use Rattle.job_names.specs.Names.{AreSpelled, spelling};
 ghost use Rattle.sp_order.specs.Objects.{number_in};
 ghost use Rattle.job_lang.specs.Language.{IsJobOf};
@@ -91,7 +92,7 @@ fn rows(alloc: Global, job: &Job, places: &[LeafPlace]) -> Result<Vec<u8>, Alloc
 ///
 /// Time: linear in the text and in the rows.
 pub fn rows_of(alloc: Global, text: &[u8], job: &Job) -> Result<Vec<u8>, AllocError>
-    requires short { length text.now ≤ 1048576 }
+    requires short { length text.now ≤ MOST_JOB_BYTES }
     requires accepted { IsJobOf text.now job.now }
     ensures { IfOk result (λ rows. AreRowsOf text.now job.now rows.items) }
 {

@@ -19,5 +19,5 @@ mod reader;
 mod text_limits;
 
 pub use job_syntax::{JobErr, JobFault};
-pub use text_limits::word_count::item_word_count;
 pub use reader::read_job;
+pub use text_limits::word_count::item_word_count;

@@ -1,5 +1,5 @@
 -- What is before what in a list of shapes, and in the shape that joins them in halves.
-use Rattle.std.proofs.Common.{ℕ, zero, suc, ◌≡◌, ◌+◌, ◌<◌, ◌≤◌, ◌⊎◌, inl, inr, Bool, true, false, List, [], ◌∷◌, ◌++◌, length, take, drop, Option, Some, None, IsSome, arith, refl, sym, ap, ◌∙◌, subst, length-take, length-drop, take-append-drop}
+use Rattle.std.proofs.Common.{ℕ, zero, suc, ◌≡◌, ◌+◌, ◌<◌, ◌≤◌, ◌⊎◌, inl, inr, Bool, true, false, List, [], ◌∷◌, ◌++◌, length, take, drop, Option, Some, None, IsSome, arith, refl, sym, ◌∙◌, subst, length-take, length-drop, take-append-drop}
 use Rattle.std.specs.Prelude.{option_to_list}
 use Rattle.sp_order.specs.Precedence.{Tree, leaf, seq, par, leaves, leaf_count, IsBeforeFrom}
 use Rattle.job_lang.specs.Joins.{join_within, join_of, both, half}

@@ -2,7 +2,7 @@
 use Rattle.std.proofs.Common.{◌≡◌, ℕ, zero, suc, ◌+◌, ◌*◌, ◌<◌, ◌≤◌, List, [], ◌∷◌, ◌++◌, length, take, drop, Option, Some, None, IsSome, refl, sym, ap, ◌∙◌, arith, length-take, length-drop, length-append}
 use Rattle.std.specs.Prelude.{sum_by, option_to_list}
 use Rattle.std.proofs.lemmas.List.Sums.{sum_by-take-drop, sum_by-cons}
-use Rattle.sp_order.specs.Precedence.{Tree, leaf, seq, par, leaves, leaf_count}
+use Rattle.sp_order.specs.Precedence.{Tree, seq, par, leaves, leaf_count}
 use Rattle.job_lang.specs.Joins.{join_within, join_of, both, half}
 use Rattle.job_syntax.specs.Grammar.{Items, nothing, leaf_then, block_then, BlockKind, seq_block, par_block, for_loop, pfor_loop, Leaf}
 use Rattle.job_syntax.specs.Blocks.{word_number, copies_of}

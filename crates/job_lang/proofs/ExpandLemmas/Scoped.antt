@@ -3,7 +3,6 @@ use Rattle.std.proofs.Common.{◌≡◌, ℕ, ◌+◌, ◌*◌, Bool, true, fals
 use Rattle.std.specs.Prelude.{if◌then◌else◌, option_and_then}
 use Rattle.job_names.specs.declared.name.Name.{Name}
 use Rattle.job_names.specs.declared.kind.Kind.{Kind}
-use Rattle.job_names.specs.declared.kind.Kind.TheVariants as kind
 use Rattle.job_names.specs.declared.scopes.Let.{Let}
 use Rattle.job_names.specs.Names.{same_name}
 use Rattle.job_names.specs.Scopes.{Scope, job, inside, is_par, or_else, last_of, lets_shown, with_lets}

@@ -22,7 +22,7 @@ use Rattle.job_lang.specs.Counts.{count}
 use Rattle.job_lang.specs.Joins.{join_of}
 use Rattle.job_lang.specs.Meaning.{each_copy, Known, leaf_known, source_of, known_by, known_behind, known_next, sources_in, argument_in, act_of, acts_in, in_block, in_block_from, join_list, join_in, copy_shapes, shapes_in}
 use Rattle.job_syntax.proofs.ParserLemmas.Calls.{call_is_leaf, verb_takes}
-use Rattle.job_lang.proofs.ExpandLemmas.Before.{total, kind_by, joins_series, join_is, IsBeforeIn, IsBeforeOpt}
+use Rattle.job_lang.proofs.ExpandLemmas.Before.{total, joins_series, join_is, IsBeforeIn, IsBeforeOpt}
 use Rattle.job_lang.proofs.ExpandLemmas.Blocks.{each_length, block_length, block_length_from}
 use Rattle.job_lang.proofs.ExpandLemmas.Joined.{before_left, before_right, before_cross, joined_of, joined_list, before_is_smaller}
 use Rattle.job_lang.proofs.ExpandLemmas.Leaves.{acts_count, shapes_count, joined_total, copy_total, each_total, block_total}

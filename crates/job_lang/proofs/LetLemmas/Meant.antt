@@ -1,15 +1,14 @@
 -- The source of each leaf is the leaf of the let that its use means.
 use Rattle.std.proofs.Common.{ℕ, ◌≡◌, ◌+◌, ◌-◌, ◌*◌, Bool, true, not, List, [], ◌∷◌, ◌++◌, length, length-append, take, Option, Some, None, arith, refl, sym, ap, ◌∙◌, subst, append_assoc, append-nil}
-use Rattle.std.specs.Prelude.{if◌then◌else◌, IsTrue, option_and_then, slice_get}
+use Rattle.std.specs.Prelude.{if◌then◌else◌, option_and_then, slice_get}
 use Rattle.std.proofs.Math.Seq.{take-append_seam}
 use Rattle.job_names.specs.declared.name.Name.{Name}
-use Rattle.job_names.specs.Scopes.{Scope}
 use Rattle.job_syntax.specs.declared.lexer.word.Word.{Word}
-use Rattle.job_syntax.specs.declared.lexer.word.Word.TheVariants.{Open, Close, Named}
+use Rattle.job_syntax.specs.declared.lexer.word.Word.TheVariants.{Open, Close}
 use Rattle.job_syntax.specs.Blocks.{copies_of}
-use Rattle.job_syntax.specs.Grammar.{Leaf, BlockKind, seq_block, par_block, for_loop, pfor_loop, is_loop, is_par, Items, nothing, leaf_then, block_then, ◌then◌, leaf_words, kind_words, items_words, IsCall, IsLeaf}
+use Rattle.job_syntax.specs.Grammar.{Leaf, BlockKind, seq_block, par_block, for_loop, pfor_loop, is_loop, is_par, Items, nothing, leaf_then, block_then, ◌then◌, leaf_words, kind_words, items_words, IsLeaf}
 use Rattle.job_syntax.specs.Visibility.{is_in_series}
-use Rattle.job_syntax.specs.Code.Shown.{OpenBlock, scope_at, is_shown, IsShownLeaf, AreShown}
+use Rattle.job_syntax.specs.Code.Shown.{OpenBlock, scope_at, IsShownLeaf, AreShown}
 use Rattle.job_syntax.specs.Code.Reached.{opening_words}
 use Rattle.job_syntax.proofs.ParserLemmas.Derivations.{words_then}
 use Rattle.job_syntax.proofs.ParserLemmas.NamesSeen.{AreFlat, AreFlatBlocks}
@@ -21,7 +20,7 @@ use Rattle.job_syntax.specs.Arguments.{name_used}
 use Rattle.job_lang.specs.Counts.{count}
 use Rattle.job_lang.specs.Meaning.{in_block, in_block_from, Known, leaf_known, source_of, known_by, known_behind, known_next, sources_in}
 use Rattle.job_lang.specs.Places.{PlacedLeaf, with_copy, placed_in, placed_leaves, MeansLet, HasItsLet, IsSourceOf, HaveTheirLets}
-use Rattle.job_syntax.proofs.ParserLemmas.Calls.{IsBegun, begun, used_shown}
+use Rattle.job_syntax.proofs.ParserLemmas.Calls.{begun, used_shown}
 use Rattle.job_lang.proofs.ExpandLemmas.Blocks.{block_length}
 use Rattle.job_lang.proofs.LetLemmas.Lists.{EachWith, each_both, each_from, each_long, each_get, Part, part_left, part_right, part_head, part_tail, each_in_block}
 use Rattle.job_lang.proofs.LetLemmas.Orders.{seen_sorted}

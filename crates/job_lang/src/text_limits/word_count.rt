@@ -11,7 +11,10 @@ fn leaf_word_count(leaf: Leaf) -> usize
     match leaf {
         Leaf::Work(_) => 2,
         Leaf::Call { argument: None, .. } => 2,
-        Leaf::Call { argument: Some(_), .. } => 3,
+        Leaf::Call {
+            argument: Some(_),
+            ..
+        } => 3,
     }
 }
 

@@ -6,9 +6,9 @@ ghost use Rattle.sp_order.specs.Objects.{number_in};
 ghost use Rattle.job_lang.specs.Language.{IsJobOf};
 ghost use Rattle.leaf_places.specs.Rows.{leaf_words, copies_words, act_words, row_text, rows_text, AreRowsOf};
 
-use call_words::{push_call, push_op};
 use crate::place::LeafPlace;
 use crate::reader::places_in;
+use call_words::{push_call, push_op};
 use job_names::Name;
 use seq_objects::Act;
 use sp_order::Job;

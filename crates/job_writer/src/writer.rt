@@ -1,5 +1,6 @@
 //! The writer of canonical texts.
 ghost use Rattle.std.specs.Prelude.{◌≡◌, ◌<◌, ◌≤◌, ◌+◌, ◌++◌, [], IfOk, OnOk, length, take, drop, string_bytes};
+ghost use Rattle.limits.specs.declared.TheConstants.{MOST_OPEN_BLOCKS};
 ghost use Rattle.sp_order.specs.Precedence.{tree_of, leaves};
 ghost use Rattle.sp_order.specs.Depth.{depth_of};
 ghost use Rattle.sp_order.specs.Jobs.{IsJob};
@@ -158,7 +159,7 @@ fn push_job(alloc: Global, text: &mut String, job: &Job) -> Result<(), AllocErro
 
 /// The canonical text of a job: on one line, with two items in every block. The reader gives the job back.
 pub fn write_job(alloc: Global, job: &Job) -> Result<Vec<u8>, AllocError>
-    requires { depth_of job.now.shape ≤ 32 }
+    requires { depth_of job.now.shape ≤ MOST_OPEN_BLOCKS }
     ensures text { IfOk result (λ text. text.items ≡ canonical_text job.now) }
     ensures short { job.now.names ≡ [] → IfOk result (λ text. length text.items < 1000000) }
     ensures plain { job.now.names ≡ [] → HasNoSources job.now → IfOk result (λ text. length text.items < 700000) }

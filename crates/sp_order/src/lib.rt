@@ -4,7 +4,6 @@
 //! before it. It stands on `seq_objects`, which defines what a leaf does.
 #![tactic(auto)]
 
-pub mod call_text;
 pub mod job;
 pub mod laws;
 pub mod node;
@@ -15,7 +14,6 @@ pub mod planned;
 pub mod shape;
 pub mod sources;
 
-pub use call_text::push_call;
 pub use job::Job;
 pub use node::{Kind, Move};
 pub use plan::Plan;

@@ -1,12 +1,16 @@
 //! The state of one worker (`Me`) and the state that all workers share (`Crew`).
-ghost use Rattle.std.specs.Prelude.{◌≡◌};
+ghost use Rattle.std.specs.Prelude.{◌≡◌, ◌*◌, ◌<◌, ◌≤◌};
+ghost use Rattle.limits.specs.declared.TheConstants.{MOST_WORKERS};
+ghost use Rattle.core_table.specs.Passes.{job_in};
+ghost use Rattle.two_deques.specs.Hands.{workers_of};
+ghost use Rattle.piece_board.specs.Boards.{workers_of as rows_of};
 ghost use Rattle.worker_crew.specs.declared.crew.Stop.TheVariants.{Memory};
 
 mod opening;
 
 use crate::batch_pieces::BatchPieces;
 use core_table::{CoreTable, Pass};
-pub use opening::deck_rooms;
+pub use opening::{PUSHES_A_CALL, deck_rooms};
 use piece_board::{Board, Desk};
 use std::alloc::{AllocError, AllocFailed};
 use two_deques::{Decks, Hand, Tries};
@@ -20,6 +24,9 @@ pub struct Crew<'a, G> {
     pub board: Board<BatchPieces>,
     pub workers: u32,
     pub pause: &'a G,
+    pub ghost job: { workers ≡ (job_in table).workers },
+    pub ghost few: { (0 < workers) × (workers ≤ MOST_WORKERS) },
+    pub ghost each: { (workers ≡ workers_of decks) × (workers ≡ rows_of board) },
 }
 
 /// What one worker owns: its pass to the table, its hand of deque ends, its desk at the board, and its choice of steal

@@ -8,7 +8,8 @@
 
 pub mod batch_pieces;
 pub mod crew;
+pub mod laws;
 pub mod sending;
 
 pub use batch_pieces::BatchPieces;
-pub use crew::{Crew, Me, Stop, deck_rooms};
+pub use crew::{Crew, Me, PUSHES_A_CALL, Stop, deck_rooms};

@@ -1,6 +1,7 @@
 //! Construction of a crew, and of its workers, at the start of a run.
 ghost use Rattle.std.specs.Prelude.{◌≡◌, ◌*◌, ◌<◌, ◌≤◌, ℕ, length, slice_index_or, IsSome, IfOk};
 ghost use Rattle.std.specs.List.{count_by};
+ghost use Rattle.limits.specs.declared.TheConstants.{MOST_WORKERS, MOST_LEAVES};
 ghost use Rattle.core_table.specs.declared.table.Pass.{Pass as PassOf};
 ghost use Rattle.core_table.specs.Passes.{IsPassOf, job_in, pass_view, planned_in};
 ghost use Rattle.table_rule.specs.Passes.{unused};
@@ -19,9 +20,15 @@ use sp_order::Job;
 use std::alloc::{AllocError, Global};
 use two_deques::{Decks, Hand, Rooms, Tries};
 
+/// The pushes that a deque of pieces is sure to take for each leaf that calls. A launch pushes each piece of its batch
+/// once, on the launcher's own deque. A batch that calls a queue has a piece for each of the eight shards, however few
+/// its calls are; of a counter, a stack or a tree, it has at most one piece for each call. So the batches of a run never
+/// have more pieces than this many for each call, and no push of a piece is refused.
+pub const PUSHES_A_CALL: u32 = 8;
+
 /// The number of leaves whose act is a call.
 fn count_calls(acts: &[Act]) -> u32
-    requires most { length acts.now ≤ 20000 }
+    requires most { length acts.now ≤ MOST_LEAVES }
     ensures { result ≡ count_by is_call acts.now }
 {
     let mut count = 0;
@@ -39,13 +46,13 @@ fn count_calls(acts: &[Act]) -> u32
 /// Memory: none.
 pub fn deck_rooms(table: &CoreTable) -> Rooms
     ensures core { result.core ≡ (job_in table.now).plan.count }
-    ensures batch { result.batch ≡ 8 * count_by is_call (planned_in table.now).acts }
+    ensures batch { result.batch ≡ PUSHES_A_CALL * count_by is_call (planned_in table.now).acts }
     ensures most { (result.core ≤ 160000) × (result.batch ≤ 160000) }
 {
     let job = table.job();
     Rooms {
         core: job.nodes(),
-        batch: 8 * count_calls(job.acts()),
+        batch: PUSHES_A_CALL * count_calls(job.acts()),
     }
 }
 
@@ -72,8 +79,6 @@ fn make_workers<G: Pause>(
     hands: Vec<Hand>,
     desks: Vec<Desk<BatchPieces>>,
 ) -> Result<Vec<Me>, AllocError>
-    requires workers { (crew.now.workers ≡ workers_of crew.now.decks) × (crew.now.workers ≤ 32)
-        × (rows_of crew.now.board ≡ crew.now.workers) }
     requires count { length passes.items ≡ crew.now.workers }
     requires passes { (w : ℕ) (pass : PassOf) → w < crew.now.workers
         → pass ≡ slice_index_or passes.items w pass
@@ -110,14 +115,14 @@ impl<'a, G: Pause> Crew<'a, G> {
     ) -> Result<(Crew<'a, G>, Vec<Me>), AllocError>
         requires leaves { IsSome job.now.shape }
         requires some_workers { 0 < workers }
-        requires few_workers { workers ≤ 32 }
+        requires few_workers { workers ≤ MOST_WORKERS }
         ensures job { IfOk result (λ made. (planned_in made.0.table ≡ job.now)
             × ((job_in made.0.table).workers ≡ workers)) }
         ensures workers { IfOk result (λ made. (made.0.workers ≡ workers)
             × (workers_of made.0.decks ≡ workers)) }
         ensures rooms { IfOk result (λ made.
             (core_room_of made.0.decks ≡ (job_in made.0.table).plan.count)
-            × (batch_room_of made.0.decks ≡ 8 * count_by is_call job.now.acts)) }
+            × (batch_room_of made.0.decks ≡ PUSHES_A_CALL * count_by is_call job.now.acts)) }
         ensures start { IfOk result (λ made. AreAtStart made.0.table made.0.decks made.0.board
             workers workers made.1.items) }
     {
@@ -138,7 +143,7 @@ impl<'a, G: Pause> Crew<'a, G> {
         hands: Vec<Hand>,
         pause: &'a G,
     ) -> Result<(Crew<'a, G>, Vec<Me>), AllocError>
-        requires workers { ((job_in table).workers ≡ workers) × (0 < workers) × (workers ≤ 32) }
+        requires workers { ((job_in table).workers ≡ workers) × (0 < workers) × (workers ≤ MOST_WORKERS) }
         requires passes { AreNewPasses table workers passes.items }
         requires decks { workers_of decks ≡ workers }
         requires rooms { HaveRooms table decks }

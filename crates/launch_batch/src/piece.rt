@@ -10,6 +10,18 @@ use object_rows::Members;
 use object_rows::run::run_all;
 use std::alloc::{AllocError, Global};
 
+/// The first place of the counters' row.
+pub const FIRST_OF_COUNTERS: u32 = 0;
+
+/// The first place of the stacks' row.
+pub const FIRST_OF_STACKS: u32 = 16;
+
+/// The first place of the trees' row.
+pub const FIRST_OF_TREES: u32 = 32;
+
+/// The first place of the queues' row, which ends at `limits::PLACES`.
+pub const FIRST_OF_QUEUES: u32 = 48;
+
 /// A piece of a batch: its place, and the inputs that structures of one kind gave it, in the order of their numbers. It
 /// owns all its data and is `Send`.
 #[derive(Drop)]
@@ -30,7 +42,7 @@ pub enum PieceOut {
 }
 
 impl PieceIn {
-    /// The place of the piece. Those of counters start at 0, of stacks at 16, of trees at 32 and of queues at 48.
+    /// The place of the piece, in the row of its kind.
     ///
     /// Memory: none.
     pub fn place(&self) -> u32

@@ -1,6 +1,7 @@
 //! The shop, and the opening of a batch in pieces.
 ghost use Rattle.std.specs.Prelude.{◌≡◌, ◌<◌, ◌≤◌, [], length, map, List, IfOk};
 ghost use Rattle.std.specs.List.{AllByRecursion};
+ghost use Rattle.limits.specs.declared.TheConstants.{PLACES};
 ghost use Rattle.seq_objects.specs.declared.call.Call.{Call as CallOf};
 ghost use Rattle.seq_objects.specs.Orders.{StrictlyAscends};
 ghost use Rattle.seq_objects.specs.Batches.{AreInBatchOrder};
@@ -11,7 +12,7 @@ ghost use Rattle.launch_batch.specs.Contexts.{IsContextOf};
 
 use crate::opened::Opened;
 use crate::order::put_in_batch_order;
-use crate::piece::PieceIn;
+use crate::piece::{FIRST_OF_COUNTERS, FIRST_OF_QUEUES, FIRST_OF_STACKS, FIRST_OF_TREES, PieceIn};
 use crate::row::open;
 use crate::structures::Structures;
 use batch_history::History;
@@ -87,8 +88,8 @@ impl Shop {
         mut calls: Vec<Call>,
     ) -> Result<(Opened, Vec<PieceIn>), AllocError>
         requires { MayServe self calls.items }
-        ensures count { IfOk result (λ p. (1 ≤ length p.1.items) × (length p.1.items ≤ 56)) }
-        ensures below { IfOk result (λ p. AllByRecursion (λ input. place_of input < 56) p.1.items) }
+        ensures count { IfOk result (λ p. (1 ≤ length p.1.items) × (length p.1.items ≤ PLACES)) }
+        ensures below { IfOk result (λ p. AllByRecursion (λ input. place_of input < PLACES) p.1.items) }
         ensures places { IfOk result (λ p. (ordered : List CallOf) × ArePermutations calls.items ordered
             × AreInBatchOrder ordered × (map place_of p.1.items ≡ places self ordered)) }
         ensures rows { IfOk result (λ p. AllByRecursion IsInOwnRow p.1.items) }
@@ -104,10 +105,16 @@ impl Shop {
         let all = calls.as_slice();
         let inner = &mut *structures;
         let mut pieces = Vec::new(alloc);
-        open::<Counter>(alloc, &mut inner.counter, all, 0, &mut pieces)?;
-        open::<Stack>(alloc, &mut inner.stack, all, 16, &mut pieces)?;
-        open::<TreeSet>(alloc, &mut inner.tree, all, 32, &mut pieces)?;
-        open::<Queue>(alloc, &mut inner.queue, all, 48, &mut pieces)?;
+        open::<Counter>(
+            alloc,
+            &mut inner.counter,
+            all,
+            FIRST_OF_COUNTERS,
+            &mut pieces,
+        )?;
+        open::<Stack>(alloc, &mut inner.stack, all, FIRST_OF_STACKS, &mut pieces)?;
+        open::<TreeSet>(alloc, &mut inner.tree, all, FIRST_OF_TREES, &mut pieces)?;
+        open::<Queue>(alloc, &mut inner.queue, all, FIRST_OF_QUEUES, &mut pieces)?;
         let opened = Opened {
             structures,
             history,

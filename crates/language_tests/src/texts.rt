@@ -1,6 +1,7 @@
 //! Rows of texts, each with what is told of it.
 use job_lang::read_job;
 use job_writer::write_job;
+use limits::{MOST_JOB_BYTES, MOST_OPEN_BLOCKS};
 use sp_order::Job;
 use std::alloc::{AllocError, Global};
 
@@ -30,7 +31,7 @@ pub(crate) struct Canonical;
 
 impl Telling for Canonical {
     fn tell(alloc: Global, job: &Job) -> Result<Vec<u8>, AllocError> {
-        if job.depth() > 32 {
+        if job.depth() > MOST_OPEN_BLOCKS {
             return Ok(Vec::new(alloc));
         }
         write_job(alloc, job)
@@ -49,7 +50,7 @@ impl Telling for Size {
 
 /// What is told of a text's job, or else of its fault.
 fn told<T: Telling>(alloc: Global, text: &[u8]) -> Result<Vec<u8>, AllocError> {
-    if text.len() > 1_048_576 {
+    if text.len() > MOST_JOB_BYTES {
         return Ok(Vec::new(alloc));
     }
     match read_job(alloc, text) {

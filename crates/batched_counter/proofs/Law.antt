@@ -4,7 +4,8 @@ use Rattle.seq_objects.specs.declared.call.Call.{Call}
 use Rattle.seq_objects.specs.declared.op.Op.{Op}
 use Rattle.seq_objects.specs.declared.op.Op.TheVariants.{CounterAdd}
 use Rattle.seq_objects.specs.declared.reply.Reply.TheVariants.{Number}
-use Rattle.seq_objects.specs.Batches.{kind_of, Counter, AreOf}
+use Rattle.seq_objects.specs.declared.kind.Kind.TheVariants.{Counter}
+use Rattle.seq_objects.specs.Batches.{kind_of, AreOf}
 use Rattle.seq_objects.specs.Serial.{after_all, replies_to_all, of_counter}
 use Rattle.seq_objects.specs.Pieces.{AllMeet, BatchContext}
 use Rattle.batched_counter.specs.declared.piece.Piece.{Piece}

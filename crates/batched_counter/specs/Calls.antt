@@ -4,7 +4,8 @@ use Rattle.seq_objects.specs.declared.op.Op.{Op}
 use Rattle.seq_objects.specs.declared.op.Op.TheVariants.{CounterAdd}
 use Rattle.seq_objects.specs.declared.call.Call.{Call}
 use Rattle.seq_objects.specs.Objects.{Objects}
-use Rattle.seq_objects.specs.Batches.{AreOf, Counter}
+use Rattle.seq_objects.specs.declared.kind.Kind.TheVariants.{Counter}
+use Rattle.seq_objects.specs.Batches.{AreOf}
 use Rattle.batched_counter.specs.Sums.{total}
 
 -- the addend of an operation; 0 for one that is no addition

@@ -7,7 +7,8 @@ use Rattle.seq_objects.specs.declared.call.Call.{Call}
 use Rattle.seq_objects.specs.declared.reply.Reply.TheVariants.{Unit as Done}
 use Rattle.seq_objects.specs.Objects.{with_item, least, without_least, number_or_empty}
 use Rattle.seq_objects.specs.BatchOrder.{ComesFirst}
-use Rattle.seq_objects.specs.Batches.{AreInBatchOrder, AreOf, kind_of, Queue}
+use Rattle.seq_objects.specs.declared.kind.Kind.TheVariants.{Queue}
+use Rattle.seq_objects.specs.Batches.{AreInBatchOrder, AreOf, kind_of}
 use Rattle.seq_objects.specs.Serial.{of_bag, after_all, replies_to_all}
 use Rattle.batched_pq.specs.Code.Bags.{with_items}
 use Rattle.batched_pq.specs.Calls.{item_of, inserts_of, takes_of}

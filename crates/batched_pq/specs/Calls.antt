@@ -5,7 +5,8 @@ use Rattle.seq_objects.specs.declared.op.Op.{Op}
 use Rattle.seq_objects.specs.declared.op.Op.TheVariants.{PqInsert, PqTake}
 use Rattle.seq_objects.specs.declared.call.Call.{Call}
 use Rattle.seq_objects.specs.Objects.{Objects}
-use Rattle.seq_objects.specs.Batches.{AreOf, Queue}
+use Rattle.seq_objects.specs.declared.kind.Kind.TheVariants.{Queue}
+use Rattle.seq_objects.specs.Batches.{AreOf}
 
 -- the item that an operation inserts, if it is an insert
 abbrev pub item_of : Op → Option ℕ

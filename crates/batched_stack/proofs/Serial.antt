@@ -10,7 +10,8 @@ use Rattle.seq_objects.specs.declared.reply.Reply.{Reply}
 use Rattle.seq_objects.specs.declared.reply.Reply.TheVariants as reply
 use Rattle.seq_objects.specs.Objects.{top, without_top, number_or_empty}
 use Rattle.seq_objects.specs.BatchOrder.{ComesFirst}
-use Rattle.seq_objects.specs.Batches.{AreInBatchOrder, AreOf, kind_of, Stack}
+use Rattle.seq_objects.specs.declared.kind.Kind.TheVariants.{Stack}
+use Rattle.seq_objects.specs.Batches.{AreInBatchOrder, AreOf, kind_of}
 use Rattle.seq_objects.specs.Serial.{replies_to_all, after_all, of_stack}
 use Rattle.batched_stack.specs.Calls.{pushes_of, pops_of}
 

@@ -19,7 +19,8 @@ use Rattle.seq_objects.specs.declared.reply.Reply.TheVariants.{Number, Unit as D
 use Rattle.seq_objects.specs.Objects.{Objects, after, reply_to, argument_of}
 use Rattle.seq_objects.specs.BatchOrder.{ComesFirst}
 use Rattle.seq_objects.specs.Pairs.{AllPairsByRecursion}
-use Rattle.seq_objects.specs.Batches.{AreInBatchOrder, AreOf, kind_of, Tree}
+use Rattle.seq_objects.specs.declared.kind.Kind.TheVariants.{Tree}
+use Rattle.seq_objects.specs.Batches.{AreInBatchOrder, AreOf, kind_of}
 use Rattle.seq_objects.specs.Serial.{of_set, after_all, replies_to_all}
 use Rattle.seq_objects.specs.Pieces.{AllMeet, BatchContext}
 use Rattle.batched_tree.specs.declared.piece.Piece.{Piece}

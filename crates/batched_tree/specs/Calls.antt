@@ -5,7 +5,8 @@ use Rattle.seq_objects.specs.declared.op.Op.{Op}
 use Rattle.seq_objects.specs.declared.op.Op.TheVariants.{TreeInsert, TreeRemove, TreeFind, TreeNext}
 use Rattle.seq_objects.specs.declared.call.Call.{Call}
 use Rattle.seq_objects.specs.Objects.{Objects, argument_of}
-use Rattle.seq_objects.specs.Batches.{AreOf, Tree}
+use Rattle.seq_objects.specs.declared.kind.Kind.TheVariants.{Tree}
+use Rattle.seq_objects.specs.Batches.{AreOf}
 
 -- whether the operation is one of the tree
 abbrev pub is_of_tree : Op → Bool

@@ -4,7 +4,9 @@ pub use Rattle.seq_objects.specs.declared.call.Call.{Call}
 pub use Rattle.seq_objects.specs.declared.reply.Reply.{Reply}
 pub use Rattle.seq_objects.specs.Objects.{Objects, opening, after, reply_to, argument_of, number_of}
 pub use Rattle.seq_objects.specs.Stores.{Store, opening_store, store_after, store_reply, store_after_all, store_replies}
-pub use Rattle.seq_objects.specs.Batches.{ObjectKind, Counter, Stack, Tree, Queue, AreInBatchOrder, AreOneBatch, kind_of, same_kind, calls_of, calls_at}
+pub use Rattle.seq_objects.specs.declared.kind.Kind.{Kind}
+pub use Rattle.seq_objects.specs.declared.kind.Kind.TheVariants.{Counter, Stack, Tree, Queue}
+pub use Rattle.seq_objects.specs.Batches.{AreInBatchOrder, AreOneBatch, kind_of, same_kind, calls_of, calls_at}
 pub use Rattle.seq_objects.specs.Serial.{after_all, replies_to_all, replies_of, alone, of_counter, of_stack, of_set, of_bag}
 pub use Rattle.seq_objects.specs.Pairs.{AllPairsByRecursion, AreDistinct}
 pub use Rattle.seq_objects.specs.Pieces.{AllMeet, BatchContext}

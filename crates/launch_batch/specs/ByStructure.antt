@@ -1,6 +1,7 @@
 -- The pieces and the outs of a batch, selected by structure.
 use Rattle.std.specs.Prelude.{ℕ, ◌+◌, Option, Some, None, List, [], ◌∷◌, filter_map}
-use Rattle.seq_objects.specs.Batches.{ObjectKind, calls_of}
+use Rattle.seq_objects.specs.declared.kind.Kind.{Kind}
+use Rattle.seq_objects.specs.Batches.{calls_of}
 use Rattle.seq_objects.specs.declared.call.Call.{Call}
 use Rattle.batched_counter.specs.declared.piece.Piece.{Piece as CounterPiece}
 use Rattle.batched_counter.specs.declared.piece.Served.{Served as CounterServed}
@@ -60,7 +61,7 @@ queue_out (done.Queue outs) = Some outs
 queue_out _ = None
 
 -- one kind's part of a batch: the contents after the book, its calls, and its pieces, which `own` selects
-abbrev pub part : {In : Type 0} → ObjectKind → (PieceIn → Option (Members In)) → List (List Entry) → List Call → List PieceIn
+abbrev pub part : {In : Type 0} → Kind → (PieceIn → Option (Members In)) → List (List Entry) → List Call → List PieceIn
     → RowContext In
 part kind own book calls ins =
     record { before = store_of_kind kind (served_book book); calls = calls_of kind calls; ins = filter_map own ins }

@@ -2,7 +2,9 @@
 use Rattle.std.specs.Prelude.{ℕ, ◌≡◌, ◌<◌, ◌≤◌, ◌*◌, ◌^◌, List, [], length}
 use Rattle.std.specs.List.{AllByRecursion}
 use Rattle.seq_objects.specs.declared.call.Call.{Call}
-use Rattle.seq_objects.specs.Batches.{ObjectKind, Counter, Stack, Tree, Queue, AreInBatchOrder}
+use Rattle.seq_objects.specs.declared.kind.Kind.{Kind}
+use Rattle.seq_objects.specs.declared.kind.Kind.TheVariants.{Counter, Stack, Tree, Queue}
+use Rattle.seq_objects.specs.Batches.{AreInBatchOrder}
 use Rattle.seq_objects.specs.Objects.{Objects, argument_of}
 use Rattle.seq_objects.specs.Stores.{Store}
 use Rattle.seq_objects.specs.Serial.{alone, of_counter, of_stack, of_set, of_bag}
@@ -15,12 +17,12 @@ use Rattle.launch_batch.specs.declared.structures.Structures.{Structures}
 use Rattle.launch_batch.specs.Calls.{MayServe, ArePermutations}
 
 -- the objects of one kind alone; all others are as at the opening
-abbrev pub store_of_kind : ObjectKind → Store → Store
+abbrev pub store_of_kind : Kind → Store → Store
 store_of_kind kind store = λ number. alone kind (store number)
 
 -- the structures of one kind are closed, and contain what serving the history gives; a number without a structure
 -- counts as one with the opening content
-pub record MatchesHistory {T R : Type 0} (content : T → Objects) (kind : ObjectKind) (row : Row T R)
+pub record MatchesHistory {T R : Type 0} (content : T → Objects) (kind : Kind) (row : Row T R)
     (history : List (List Entry)) : Type 0 where
   pub closed : row.called.items ≡ []
   pub contents : (number : ℕ) → store_of content row.closed number ≡ store_of_kind kind (served_book history) number

@@ -1,6 +1,6 @@
 -- The context of a batch over all structures, and how an opened batch belongs to it.
 use Rattle.std.specs.Prelude.{◌≡◌, List}
-use Rattle.seq_objects.specs.Batches.{Counter, Stack, Tree, Queue}
+use Rattle.seq_objects.specs.declared.kind.Kind.TheVariants.{Counter, Stack, Tree, Queue}
 use Rattle.seq_objects.specs.Serial.{of_counter, of_stack, of_set, of_bag}
 use Rattle.seq_objects.specs.Pieces.{BatchContext}
 use Rattle.batched_counter.specs.Pieces.{IsContextOf as IsCounterContext}

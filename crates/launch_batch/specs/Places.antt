@@ -6,7 +6,8 @@ use Rattle.limits.specs.declared.TheConstants.{PLACES}
 use Rattle.seq_objects.specs.declared.call.Call.{Call}
 use Rattle.seq_objects.specs.Objects.{Objects}
 use Rattle.seq_objects.specs.Stores.{Store}
-use Rattle.seq_objects.specs.Batches.{Counter, Stack, Tree, Queue, calls_of, calls_at}
+use Rattle.seq_objects.specs.declared.kind.Kind.TheVariants.{Counter, Stack, Tree, Queue}
+use Rattle.seq_objects.specs.Batches.{calls_of, calls_at}
 use Rattle.batched_counter.specs.Pieces.{piece_count as counter_count}
 use Rattle.batched_stack.specs.Pieces.{piece_count as stack_count}
 use Rattle.batched_tree.specs.Pieces.{piece_count as tree_count}

@@ -2,8 +2,9 @@
 ghost use Rattle.std.specs.Prelude.{◌≡◌, ℕ, IfOk};
 ghost use Rattle.seq_objects.specs.Objects.{opening};
 ghost use Rattle.object_rows.specs.declared.members.Members.{Members as MembersOf};
-ghost use Rattle.seq_objects.specs.Batches as objects;
-ghost use Rattle.seq_objects.specs.Batches.{ObjectKind, kind_of, same_kind};
+ghost use Rattle.seq_objects.specs.declared.kind.Kind.{Kind as ObjectKind};
+ghost use Rattle.seq_objects.specs.declared.kind.Kind.TheVariants as objects;
+ghost use Rattle.seq_objects.specs.Batches.{kind_of, same_kind};
 ghost use Rattle.launch_batch.specs.declared.piece.PieceIn.{PieceIn as Input};
 ghost use Rattle.launch_batch.specs.declared.piece.PieceIn.TheVariants as piece;
 

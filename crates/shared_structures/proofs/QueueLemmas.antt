@@ -5,7 +5,8 @@ use Rattle.std.specs.List.{AllByRecursion}
 use Rattle.seq_objects.specs.declared.op.Op.{Op}
 use Rattle.seq_objects.specs.declared.reply.Reply.{Reply}
 use Rattle.seq_objects.specs.Objects.{Objects, after, reply_to, least, number_or_empty}
-use Rattle.seq_objects.specs.Batches.{Queue, kind_of}
+use Rattle.seq_objects.specs.declared.kind.Kind.TheVariants.{Queue}
+use Rattle.seq_objects.specs.Batches.{kind_of}
 use Rattle.seq_objects.specs.Serial.{of_bag}
 use Rattle.shared_calls.specs.Serial.{IsServedInSomeOrder}
 use Rattle.shared_structures.specs.declared.queue.QueueOp.{QueueOp}

@@ -5,7 +5,8 @@ use Rattle.std.specs.List.{AllByRecursion}
 use Rattle.seq_objects.specs.declared.op.Op.{Op}
 use Rattle.seq_objects.specs.declared.reply.Reply.{Reply}
 use Rattle.seq_objects.specs.Objects.{Objects, after, reply_to, has, least_above, yes_or_no, number_or_empty}
-use Rattle.seq_objects.specs.Batches.{Tree, kind_of}
+use Rattle.seq_objects.specs.declared.kind.Kind.TheVariants.{Tree}
+use Rattle.seq_objects.specs.Batches.{kind_of}
 use Rattle.seq_objects.specs.Serial.{of_set}
 use Rattle.shared_calls.specs.Serial.{IsServedInSomeOrder}
 use Rattle.shared_structures.specs.declared.set.SetOp.{SetOp}

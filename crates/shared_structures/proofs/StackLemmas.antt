@@ -5,7 +5,8 @@ use Rattle.std.specs.List.{AllByRecursion}
 use Rattle.seq_objects.specs.declared.op.Op.{Op}
 use Rattle.seq_objects.specs.declared.reply.Reply.{Reply}
 use Rattle.seq_objects.specs.Objects.{Objects, after, reply_to, top, number_or_empty}
-use Rattle.seq_objects.specs.Batches.{Stack, kind_of}
+use Rattle.seq_objects.specs.declared.kind.Kind.TheVariants.{Stack}
+use Rattle.seq_objects.specs.Batches.{kind_of}
 use Rattle.seq_objects.specs.Serial.{of_stack}
 use Rattle.shared_calls.specs.Serial.{IsServedInSomeOrder}
 use Rattle.shared_structures.specs.declared.stack.StackOp.{StackOp}

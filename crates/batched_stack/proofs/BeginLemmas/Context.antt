@@ -4,7 +4,8 @@ use Rattle.std.proofs.lemmas.List.{length-map}
 use Rattle.std.specs.List.{AllByRecursion, range_with_len}
 use Rattle.seq_objects.specs.declared.call.Call.{Call}
 use Rattle.seq_objects.specs.Objects.{has}
-use Rattle.seq_objects.specs.Batches.{AreOneBatch, AreOf, Stack}
+use Rattle.seq_objects.specs.declared.kind.Kind.TheVariants.{Stack}
+use Rattle.seq_objects.specs.Batches.{AreOneBatch, AreOf}
 use Rattle.batched_stack.specs.declared.stripe.Stripe.{Stripe}
 use Rattle.batched_stack.specs.declared.piece.Piece.{Piece}
 use Rattle.batched_stack.specs.declared.piece.Rest.{Rest}

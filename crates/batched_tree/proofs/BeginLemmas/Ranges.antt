@@ -21,7 +21,8 @@ use Rattle.seq_objects.specs.Objects.{Objects}
 use Rattle.batched_tree.specs.declared.piece.Piece.{Piece}
 use Rattle.batched_tree.specs.Calls.{key_of, keys_of, distinct_keys}
 use Rattle.batched_tree.specs.Code.Sides.{calls_below, calls_from}
-use Rattle.seq_objects.specs.Batches.{AreOneBatch, AreOf, Tree}
+use Rattle.seq_objects.specs.declared.kind.Kind.TheVariants.{Tree}
+use Rattle.seq_objects.specs.Batches.{AreOneBatch, AreOf}
 use Rattle.seq_objects.specs.Serial.{of_set}
 use Rattle.batched_tree.specs.declared.piece.Rest.{Rest}
 use Rattle.batched_tree.proofs.BeginLemmas.Cuts.{some_key}

@@ -13,7 +13,8 @@ use Rattle.seq_objects.specs.declared.reply.Reply.{Reply}
 use Rattle.seq_objects.specs.declared.reply.Reply.TheVariants.{Empty}
 use Rattle.seq_objects.specs.Objects.{Objects, after, reply_to, argument_of, with_key, without_key, least_above, yes_or_no, number_or_empty}
 use Rattle.seq_objects.specs.BatchOrder.{ComesFirst, class_of}
-use Rattle.seq_objects.specs.Batches.{AreInBatchOrder, AreOf, kind_of, Tree}
+use Rattle.seq_objects.specs.declared.kind.Kind.TheVariants.{Tree}
+use Rattle.seq_objects.specs.Batches.{AreInBatchOrder, AreOf, kind_of}
 use Rattle.seq_objects.specs.Serial.{of_set, after_all, replies_to_all}
 use Rattle.batched_tree.specs.Calls.{key_of}
 use Rattle.batched_tree.specs.Code.Sides.{calls_below, calls_from}

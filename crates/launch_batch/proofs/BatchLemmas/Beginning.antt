@@ -1,6 +1,6 @@
 -- The facts at the opening of a batch.
 use Rattle.std.proofs.Common.{ℕ, ◌≡◌, ◌==◌, ◌≤◌, ◌<◌, ◌+◌, ◌*◌, ◌^◌, List, [], length, map, None, refl, ap, sym, subst, ◌∙◌, arith, append-nil}
-use Rattle.launch_batch.proofs.Words.{AllByRecursion, Call, number_of, AreDistinct, ObjectKind, Counter, Stack, Tree, Queue, AreInBatchOrder, AreOneBatch, kind_of, same_kind, calls_of, calls_at, of_counter, Entry, flat, MayServe, ArePermutations, IsNarrow, Members, Objects, Reply, opening, alone, served_book, BatchContext, store_of_kind, MatchesHistory, PieceIn}
+use Rattle.launch_batch.proofs.Words.{AllByRecursion, Call, number_of, AreDistinct, Kind, Counter, Stack, Tree, Queue, AreInBatchOrder, AreOneBatch, kind_of, same_kind, calls_of, calls_at, of_counter, Entry, flat, MayServe, ArePermutations, IsNarrow, Members, Objects, Reply, opening, alone, served_book, BatchContext, store_of_kind, MatchesHistory, PieceIn}
 use Rattle.seq_objects.specs.Batches.{AreOf}
 use Rattle.seq_objects.proofs.Filters.{are_of}
 use Rattle.object_rows.specs.declared.row.Row.{Row}
@@ -18,7 +18,7 @@ use Rattle.launch_batch.proofs.BatchLemmas.Serial.{total_small}
 use Rattle.key_sets.proofs.Filters.{all_filter}
 
 -- the calls of a kind and a number are of the kind
-pub own_at : (kind : ObjectKind) (number : ℕ) (calls : List Call) → AreOf kind (calls_at number (calls_of kind calls))
+pub own_at : (kind : Kind) (number : ℕ) (calls : List Call) → AreOf kind (calls_at number (calls_of kind calls))
 own_at kind number calls = all_filter (λ (call : Call). kind_of call.op ≡ kind) (λ (call : Call). number_of call.op == number) (calls_of kind calls) (are_of kind calls)
 
 pub some_same : (calls ordered : List Call) → ArePermutations calls ordered → 0 < length calls → 0 < length ordered
@@ -58,12 +58,12 @@ some_by_kind calls ordered same some =
     let all = all_by_kind ordered in
     omega (arith, n, all)
 
-opening_alone : (kind : ObjectKind) → opening ≡ alone kind opening
+opening_alone : (kind : Kind) → opening ≡ alone kind opening
 opening_alone Counter = refl
 opening_alone _ = refl
 
 -- without structures and batches
-pub none_kept : {T R : Type 0} (content : T → Objects) (kind : ObjectKind) (row : Row T R) (history : List (List Entry)) → row.called.items ≡ [] → ((number : ℕ) → structure_at row.closed number ≡ None)
+pub none_kept : {T R : Type 0} (content : T → Objects) (kind : Kind) (row : Row T R) (history : List (List Entry)) → row.called.items ≡ [] → ((number : ℕ) → structure_at row.closed number ≡ None)
     → history ≡ [] → MatchesHistory content kind row history
 none_kept content kind row history closed none is = record {
   closed = closed;
@@ -71,15 +71,15 @@ none_kept content kind row history closed none is = record {
 }
 
 -- the contents of a row that matches the history
-store_is : {T R : Type 0} (content : T → Objects) (kind : ObjectKind) (row : Row T R) (history : List (List Entry)) → MatchesHistory content kind row history
+store_is : {T R : Type 0} (content : T → Objects) (kind : Kind) (row : Row T R) (history : List (List Entry)) → MatchesHistory content kind row history
     → store_of content row.closed ≡ store_of_kind kind (served_book history)
 store_is content kind row history m = λ i number. m.contents number i
 
-pub cut_for : {T R In : Type 0} (content : T → Objects) (kind : ObjectKind) (cut : Objects → List Call → List In → Type 0) (row : Row T R) (history : List (List Entry)) (calls : List Call) (ins : List (Members In))
+pub cut_for : {T R In : Type 0} (content : T → Objects) (kind : Kind) (cut : Objects → List Call → List In → Type 0) (row : Row T R) (history : List (List Entry)) (calls : List Call) (ins : List (Members In))
     → MatchesHistory content kind row history → AreCut cut (store_of content row.closed) calls ins → AreCut cut (store_of_kind kind (served_book history)) calls ins
 cut_for content kind cut row history calls ins m is = subst (λ store. AreCut cut store calls ins) (store_is content kind row history m) is
 
-pub context_for : {T R In : Type 0} (content : T → Objects) (kind : ObjectKind) (is_context_of : R → BatchContext T In → Type 0) (row now : Row T R) (history : List (List Entry)) (calls : List Call)
+pub context_for : {T R In : Type 0} (content : T → Objects) (kind : Kind) (is_context_of : R → BatchContext T In → Type 0) (row now : Row T R) (history : List (List Entry)) (calls : List Call)
     (ins own : List (Members In)) → MatchesHistory content kind row history → own ≡ ins
     → IsRowContextOf content is_context_of now (record { before = store_of content row.closed; calls = calls; ins = ins })
     → IsRowContextOf content is_context_of now (record { before = store_of_kind kind (served_book history); calls = calls; ins = own })
@@ -88,7 +88,7 @@ context_for content kind is_context_of row now history calls ins own m are is =
     (subst (λ store. IsRowContextOf content is_context_of now (record { before = store; calls = calls; ins = ins })) (store_is content kind row history m) is)
 
 -- what the structures of a kind have served where they matched the history
-pub served_for : {T R : Type 0} (content : T → Objects) (kind : ObjectKind) (row now : Row T R) (history : List (List Entry)) (calls : List Call) (earlier replies : List Reply) → MatchesHistory content kind row history
+pub served_for : {T R : Type 0} (content : T → Objects) (kind : Kind) (row now : Row T R) (history : List (List Entry)) (calls : List Call) (earlier replies : List Reply) → MatchesHistory content kind row history
     → ServesOwn content now (store_of content row.closed) calls earlier replies → ServesOwn content now (store_of_kind kind (served_book history)) calls earlier replies
 served_for content kind row now history calls earlier replies m is = subst (λ store. ServesOwn content now store calls earlier replies) (store_is content kind row history m) is
 

@@ -1,6 +1,6 @@
 -- The structures, each of which has served its calls.
 use Rattle.std.proofs.Common.{◌≡◌, List, [], ◌++◌, length, refl, ap, sym, subst, ◌∙◌, append-nil, arith}
-use Rattle.launch_batch.proofs.Words.{Members, Call, Reply, Objects, ObjectKind, Counter, Stack, Tree, Queue, calls_of, of_counter, of_stack, of_set, of_bag, AllMeet, BatchContext, Entry, PieceIn, counter_piece, stack_piece, tree_piece, queue_piece, part, Store, store_of_kind, served_book, HasRoom}
+use Rattle.launch_batch.proofs.Words.{Members, Call, Reply, Objects, Kind, Counter, Stack, Tree, Queue, calls_of, of_counter, of_stack, of_set, of_bag, AllMeet, BatchContext, Entry, PieceIn, counter_piece, stack_piece, tree_piece, queue_piece, part, Store, store_of_kind, served_book, HasRoom}
 use Rattle.batched_counter.specs.Pieces.{IsContextOf as IsCounterContext, Meets as CounterMeets}
 use Rattle.batched_stack.specs.Pieces.{IsContextOf as IsStackContext, Meets as StackMeets}
 use Rattle.batched_tree.specs.Pieces.{IsContextOf as IsTreeContext, Meets as TreeMeets}
@@ -54,7 +54,7 @@ module _ (now : Structures) (book : List (List Entry)) (calls ordered : List Cal
   }
 
 -- what the closing of a row promises
-abbrev Closes : {T R In Out : Type 0} → ObjectKind → (T → Objects) → (R → BatchContext T In → Type 0) → (In → Out → Type 0) → List Call → Row T R → Row T R → List (Members Out) → List Reply → List Reply → Type 0
+abbrev Closes : {T R In Out : Type 0} → Kind → (T → Objects) → (R → BatchContext T In → Type 0) → (In → Out → Type 0) → List Call → Row T R → Row T R → List (Members Out) → List Reply → List Reply → Type 0
 Closes {T} {R} {In} {Out} kind content is_context_of meets calls was now outs earlier replies =
     (o : RowContext In) → IsRowContextOf content is_context_of was o → o.calls ≡ calls_of kind calls → AllMeet (MembersMeet meets) o.ins outs → ServesOwn content now o.before o.calls earlier replies
 

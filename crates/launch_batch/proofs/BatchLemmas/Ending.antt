@@ -1,6 +1,6 @@
 -- The entries, the history and the structures at the end of a batch.
 use Rattle.std.proofs.Common.{◌≡◌, List, [], ◌∷◌, ◌++◌, length, sym, ap, subst, ◌∙◌, arith}
-use Rattle.launch_batch.proofs.Words.{AllByRecursion, Call, Reply, Objects, Store, opening_store, store_after_all, store_replies, ObjectKind, Counter, Stack, Tree, Queue, AreInBatchOrder, alone, of_counter, of_stack, of_set, of_bag, Entry, flat, IsHistory, served, served_book, calls_in, replies_in, ArePermutations, IsServiceOf, MatchesHistory, IsNarrow}
+use Rattle.launch_batch.proofs.Words.{AllByRecursion, Call, Reply, Objects, Store, opening_store, store_after_all, store_replies, Kind, Counter, Stack, Tree, Queue, AreInBatchOrder, alone, of_counter, of_stack, of_set, of_bag, Entry, flat, IsHistory, served, served_book, calls_in, replies_in, ArePermutations, IsServiceOf, MatchesHistory, IsNarrow}
 use Rattle.object_rows.specs.declared.row.Row.{Row}
 use Rattle.launch_batch.specs.declared.structures.Structures.{Structures}
 use Rattle.launch_batch.specs.Contents.{ShopInvariant}
@@ -13,7 +13,7 @@ use Rattle.launch_batch.proofs.BatchLemmas.Histories.{history_made, length_book,
 use Rattle.batch_history.proofs.BookLemmas.Books.{flat_append, served_append}
 
 -- the structures of one kind contain what the history with the batch gives
-kind_kept : {T R : Type 0} (content : T → Objects) (kind : ObjectKind) (row : Row T R) (book : List (List Entry)) (ordered : List Call) (entries : List Entry)
+kind_kept : {T R : Type 0} (content : T → Objects) (kind : Kind) (row : Row T R) (book : List (List Entry)) (ordered : List Call) (entries : List Entry)
     → served_book (book ++ entries ∷ []) ≡ store_after_all (served_book book) ordered → HasServedOwn content kind row book ordered → MatchesHistory content kind row (book ++ entries ∷ [])
 kind_kept content kind row book ordered entries then served = record {
   closed = served.closed;

@@ -1,10 +1,10 @@
 -- The objects of one kind, of all numbers, serve their own calls.
 use Rattle.std.proofs.Common.{ℕ, ◌≡◌, ◌==◌, Bool, true, false, cond, List, [], ◌∷◌, refl, ap, ◌∙◌, arith}
 use Rattle.std.proofs.lemmas.Bool.Decides.{nat_tests}
-use Rattle.launch_batch.proofs.Words.{Call, Reply, Objects, after, reply_to, number_of, Store, store_after, store_reply, store_after_all, store_replies, ObjectKind, kind_of, same_kind, calls_of, replies_of, alone, store_of_kind}
+use Rattle.launch_batch.proofs.Words.{Call, Reply, Objects, after, reply_to, number_of, Store, store_after, store_reply, store_after_all, store_replies, Kind, kind_of, same_kind, calls_of, replies_of, alone, store_of_kind}
 use Rattle.seq_objects.proofs.Apart.{own_replies, own_content}
 
-module _ (kind : ObjectKind) where
+module _ (kind : Kind) where
   -- a single call: of this kind here, of another one in the next lemma
   own_after : (o : Objects) (call : Call) → same_kind kind (kind_of call.op) ≡ true → alone kind (after o call.op) ≡ after (alone kind o) call.op
   own_after o call own = rw own at (own_content kind o (call ∷ []))

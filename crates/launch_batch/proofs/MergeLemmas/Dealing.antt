@@ -1,6 +1,6 @@
 -- The calls of one kind among those of a batch.
 use Rattle.std.proofs.Common.{◌≡◌, ◌+◌, ◌≤◌, Bool, true, false, cond, List, [], ◌∷◌, length, filter, refl, ap, arith}
-use Rattle.launch_batch.proofs.Words.{Call, ObjectKind, Counter, Stack, Tree, Queue, kind_of, same_kind, calls_of}
+use Rattle.launch_batch.proofs.Words.{Call, Kind, Counter, Stack, Tree, Queue, kind_of, same_kind, calls_of}
 
 -- those that pass are at most as many as all together
 pub few_pass : (passes : Call → Bool) (calls : List Call) → length (filter passes calls) ≤ length calls
@@ -23,7 +23,7 @@ all_pass passes (call ∷ calls) long = step (passes call) (few_pass passes call
 pub all_by_kind : (calls : List Call) → length calls ≡ length (calls_of Counter calls) + length (calls_of Stack calls) + length (calls_of Tree calls) + length (calls_of Queue calls)
 all_by_kind [] = refl
 all_by_kind (call ∷ calls) = step (kind_of call.op) (all_by_kind calls) where
-  step : (k : ObjectKind) → length calls ≡ length (calls_of Counter calls) + length (calls_of Stack calls) + length (calls_of Tree calls) + length (calls_of Queue calls)
+  step : (k : Kind) → length calls ≡ length (calls_of Counter calls) + length (calls_of Stack calls) + length (calls_of Tree calls) + length (calls_of Queue calls)
       → length (call ∷ calls) ≡ length (cond (same_kind Counter k) (call ∷ calls_of Counter calls) (calls_of Counter calls)) + length (cond (same_kind Stack k) (call ∷ calls_of Stack calls) (calls_of Stack calls))
       + length (cond (same_kind Tree k) (call ∷ calls_of Tree calls) (calls_of Tree calls)) + length (cond (same_kind Queue k) (call ∷ calls_of Queue calls) (calls_of Queue calls))
   step Counter rest = omega (arith, rest)

@@ -1,6 +1,6 @@
 -- The replies to calls in batch order stand kind after kind.
 use Rattle.std.proofs.Common.{ℕ, ◌≡◌, ◌<◌, ◌≤◌, inl, inr, Bool, true, false, cond, List, [], ◌∷◌, ◌++◌, length, refl, ap, sym, subst, arith}
-use Rattle.launch_batch.proofs.Words.{AllByRecursion, Call, Reply, Store, store_replies, ObjectKind, Counter, Stack, Tree, Queue, AreInBatchOrder, kind_of, same_kind, calls_of, replies_of, store_of_kind}
+use Rattle.launch_batch.proofs.Words.{AllByRecursion, Call, Reply, Store, store_replies, Kind, Counter, Stack, Tree, Queue, AreInBatchOrder, kind_of, same_kind, calls_of, replies_of, store_of_kind}
 use Rattle.seq_objects.specs.declared.op.Op.{Op}
 use Rattle.seq_objects.specs.declared.op.Op.TheVariants.{CounterAdd}
 use Rattle.seq_objects.specs.BatchOrder.{ComesFirst, class_of}
@@ -10,13 +10,13 @@ use Rattle.object_rows.proofs.Closing.{length_told}
 use Rattle.launch_batch.proofs.MergeLemmas.ByKind.{kind_replies}
 
 -- the least and the greatest class of a kind's operations
-abbrev least : ObjectKind → ℕ
+abbrev least : Kind → ℕ
 least Counter = 0
 least Stack = 1
 least Tree = 3
 least Queue = 5
 
-abbrev greatest : ObjectKind → ℕ
+abbrev greatest : Kind → ℕ
 greatest Counter = 0
 greatest Stack = 2
 greatest Tree = 4
@@ -31,7 +31,7 @@ at_most (CounterAdd number addend) = omega arith
 at_most _ = omega arith
 
 -- no operation of an earlier kind comes after one of a later kind
-never_after : (kind : ObjectKind) (op : Op) (worker : ℕ) (later : Op) (of : ℕ) → greatest kind < least (kind_of op) → ComesFirst op worker later of → same_kind kind (kind_of later) ≡ false
+never_after : (kind : Kind) (op : Op) (worker : ℕ) (later : Op) (of : ℕ) → greatest kind < least (kind_of op) → ComesFirst op worker later of → same_kind kind (kind_of later) ≡ false
 never_after kind op worker later of below first = step (same_kind kind (kind_of later)) refl where
   up : class_of op ≤ class_of later
   up = elim first [ inl less ↦ omega (arith, less) | inr same ↦ omega (arith, same.0) ]
@@ -43,7 +43,7 @@ never_after kind op worker later of below first = step (same_kind kind (kind_of 
       let low = at_least op in
       absurd (omega (arith, below, up, high, low))
 
-none_of : (kind : ObjectKind) (calls : List Call) (replies : List Reply) → AllByRecursion (λ call. same_kind kind (kind_of call.op) ≡ false) calls → replies_of kind calls replies ≡ []
+none_of : (kind : Kind) (calls : List Call) (replies : List Reply) → AllByRecursion (λ call. same_kind kind (kind_of call.op) ≡ false) calls → replies_of kind calls replies ≡ []
 none_of kind [] replies others = refl
 none_of kind (call ∷ calls) [] others = refl
 none_of kind (call ∷ calls) (reply ∷ replies) others = rw others.0 (none_of kind calls replies others.1)
@@ -57,12 +57,12 @@ in_turn (call ∷ calls) [] order count = absurd (omega (arith, count))
 in_turn (call ∷ calls) (reply ∷ replies) order count =
     step (kind_of call.op) (replies_of Counter calls replies) (replies_of Stack calls replies) (replies_of Tree calls replies) (replies_of Queue calls replies)
     refl (none Counter) (none Stack) (none Tree) (in_turn calls replies order.1 (omega (arith, count))) where
-      none : (kind : ObjectKind) → greatest kind < least (kind_of call.op) → replies_of kind calls replies ≡ []
+      none : (kind : Kind) → greatest kind < least (kind_of call.op) → replies_of kind calls replies ≡ []
       none kind below = none_of kind calls replies
           (each_so (λ (c : Call). ComesFirst call.op call.worker c.op c.worker) (λ (c : Call). same_kind kind (kind_of c.op) ≡ false)
           (λ c first. never_after kind call.op call.worker c.op c.worker below first) calls order.0)
 
-      step : (k : ObjectKind) (counters stacks trees queues : List Reply) → kind_of call.op ≡ k
+      step : (k : Kind) (counters stacks trees queues : List Reply) → kind_of call.op ≡ k
           → (greatest Counter < least (kind_of call.op) → counters ≡ []) → (greatest Stack < least (kind_of call.op) → stacks ≡ []) → (greatest Tree < least (kind_of call.op) → trees ≡ [])
           → replies ≡ counters ++ stacks ++ trees ++ queues
           → reply ∷ replies ≡ cond (same_kind Counter k) (reply ∷ counters) counters ++ cond (same_kind Stack k) (reply ∷ stacks) stacks

@@ -4,7 +4,9 @@ use Rattle.seq_objects.specs.declared.call.Call.{Call}
 use Rattle.seq_objects.specs.declared.reply.Reply.{Reply}
 use Rattle.seq_objects.specs.Objects.{Objects}
 use Rattle.seq_objects.specs.Stores.{Store, store_replies}
-use Rattle.seq_objects.specs.Batches.{ObjectKind, Counter, Stack, Tree, Queue, calls_of}
+use Rattle.seq_objects.specs.declared.kind.Kind.{Kind}
+use Rattle.seq_objects.specs.declared.kind.Kind.TheVariants.{Counter, Stack, Tree, Queue}
+use Rattle.seq_objects.specs.Batches.{calls_of}
 use Rattle.seq_objects.specs.Serial.{of_counter, of_stack, of_set, of_bag}
 use Rattle.object_rows.specs.declared.row.Row.{Row}
 use Rattle.object_rows.specs.Contexts.{HasServed}
@@ -20,11 +22,11 @@ pub record ServesOwn {T R : Type 0} (content : T → Objects) (row : Row T R) (b
   pub behind : replies ≡ earlier ++ store_replies before calls
 
 -- the replies of one kind's structures to their own calls, after the book
-abbrev pub own_replies : ObjectKind → List (List Entry) → List Call → List Reply
+abbrev pub own_replies : Kind → List (List Entry) → List Call → List Reply
 own_replies kind book ordered = store_replies (store_of_kind kind (served_book book)) (calls_of kind ordered)
 
 -- the structures of one kind had the contents of the book, and have served their own calls
-abbrev pub HasServedOwn : {T R : Type 0} → (T → Objects) → ObjectKind → Row T R → List (List Entry) → List Call → Type 0
+abbrev pub HasServedOwn : {T R : Type 0} → (T → Objects) → Kind → Row T R → List (List Entry) → List Call → Type 0
 HasServedOwn content kind row book ordered =
     HasServed content row (store_of_kind kind (served_book book)) (calls_of kind ordered) (own_replies kind book ordered)
 

@@ -1,6 +1,7 @@
 use Rattle.std.proofs.Common.{◌≡◌, List, map, subst}
 use Rattle.seq_objects.specs.declared.op.Op.{Op}
-use Rattle.seq_objects.specs.Batches.{Stack, kind_of}
+use Rattle.seq_objects.specs.declared.kind.Kind.TheVariants.{Stack}
+use Rattle.seq_objects.specs.Batches.{kind_of}
 use Rattle.seq_objects.specs.Serial.{of_stack}
 use Rattle.shared_calls.specs.Serial.{IsServedInSomeOrder}
 use Rattle.shared_structures.specs.declared.stack.StackOp.{StackOp}

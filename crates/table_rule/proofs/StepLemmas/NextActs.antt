@@ -110,8 +110,8 @@ module _ (job : CoreJob) (laws : Laws job) (call : CallState) where
     below = side_below job.plan p l laws.plan (ap parent_of (laws.plan.left_of_par p l r is));
     here = tt;
     happens = λ s k low free task. record { worker_in = low; needs = (free, task, is); does = refl };
-  half_stands p _ is = tt
   }
+  half_stands p _ is = tt
 
   started_stands : (n start leaf : ℕ) (act : Act) → job.plan.kind n ≡ Some (LeafNode leaf) → job.act leaf ≡ act
       → ActStands job (Started n start) call (act_of_started act call n start leaf)
@@ -152,8 +152,8 @@ module _ (job : CoreJob) (laws : Laws job) (call : CallState) where
     below = block_in job.plan p (ParNode l r) laws.plan is;
     done = λ k. refl;
     happens = λ s k low free task. record { worker_in = low; needs = (free, task, is); does = refl };
-  handed_stands p _ is = tt
   }
+  handed_stands p _ is = tt
 
   pub act_stands : (task : Task) → TaskHere job task → ActStands job task call (next_act job task call)
   act_stands Idle here = tt

@@ -5,7 +5,7 @@ use Rattle.core_model.specs.State.{core_job}
 use Rattle.atomic_table.specs.Table.{turned, rest}
 use Rattle.atomic_table.specs.Seated.{TableId}
 use Rattle.atomic_table.specs.declared.shared.Seat.{Seat}
-use Rattle.core_model.specs.declared.status.CallState.TheVariants.{Out}
+use Rattle.core_model.specs.declared.status.CallState.TheVariants.{NotCalled, Out, Got}
 use Rattle.core_model.specs.declared.status.CallState.{CallState}
 use Rattle.table_rule.specs.declared.view.Miss.{Miss}
 use Rattle.table_rule.specs.declared.view.View.{View}
@@ -188,8 +188,9 @@ books a b e = cc
 
 -- a pass that has the flag is trapped
 out_by : (call : CallState) → ((call ≢ Out) → ⊥) → call ≡ Out
+out_by NotCalled out = absurd (out (λ e. cc))
 out_by Out out = refl
-out_by _ out = absurd (out (λ e. cc))
+out_by (Got receipt) out = absurd (out (λ e. cc))
 
 pub held_out : (k : ℕ) (me : SeatState) (h : HoldView) → HoldsSlots k me → me.0.own.hold ≡ Some h → me.0.own.call ≡ Out
 held_out k me h carries holds = out_by me.0.own.call (λ ne. let clash : Some h ≡ None = sym holds ∙ (carries.free ne).0 in absurd (cc))

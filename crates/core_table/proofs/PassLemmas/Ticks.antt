@@ -1,5 +1,5 @@
 -- What a tick leaves of a pass, whether it starts a leaf or ends it.
-use Rattle.std.proofs.Common.{ℕ, ◌≡◌, ◌<◌, ◌∙◌, Option, Some, List, refl, sym, ap, subst}
+use Rattle.std.proofs.Common.{ℕ, ◌≡◌, ◌<◌, ◌∙◌, Option, None, Some, List, refl, sym, ap, subst}
 use Rattle.core_model.specs.State.{CoreJob}
 use Rattle.core_model.specs.Next.{next_act}
 use Rattle.core_model.specs.declared.next.Next.{Next}
@@ -40,7 +40,13 @@ module _ (job : CoreJob) (laws : Laws job) (v : View) (xs : List (ℕ × Slot)) 
       let told = ends n start (next_seen job v (acts.End n start) known due) in
       let kept : (n < job.plan.count) × (start < 80000) = subst (TaskHere job) stands here in
       (End n start, told ∙ ap (λ (y : Task). (with_step (with_task (End n start) y) v, xs)) (sym after), subst (TaskHere job) (sym after) (kept.0, kept.1, low))
-  ticks_by _ here due is at low starts ends started ended = absurd is
+  ticks_by None here due is at low starts ends started ended = absurd is
+  ticks_by (Some (acts.Open n y event)) here due is at low starts ends started ended = absurd is
+  ticks_by (Some (acts.Spin n start steps)) here due is at low starts ends started ended = absurd is
+  ticks_by (Some (acts.Call n start leaf op)) here due is at low starts ends started ended = absurd is
+  ticks_by (Some (acts.Got n start reply)) here due is at low starts ends started ended = absurd is
+  ticks_by (Some (acts.Finish n event)) here due is at low starts ends started ended = absurd is
+  ticks_by (Some (acts.Arrive p l r n)) here due is at low starts ends started ended = absurd is
 
   pub ticks : TaskHere job v.own.task → IsTickDue (next_act job v.own.task v.own.call) → v.own.task ≡ was → (tick < 80000) × Starts × Ends
       → ((n : ℕ) → was ≡ Run n → task ≡ Started n tick) → ((n start : ℕ) → was ≡ Kept n start → task ≡ Ended n start tick) → IsTicked

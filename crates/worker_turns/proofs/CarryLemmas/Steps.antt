@@ -11,7 +11,7 @@ use Rattle.table_rule.specs.Shows.{IsPrefix}
 use Rattle.worker_crew.specs.Workers.{WorkerView}
 use Rattle.worker_turns.specs.Pieces.{Desk, DrainsRow}
 use Rattle.worker_turns.specs.declared.trapped.Trapped.{Trapped}
-use Rattle.worker_turns.specs.declared.trapped.Trapped.TheVariants.{Left}
+use Rattle.worker_turns.specs.declared.trapped.Trapped.TheVariants.{Left, Piece, Launched, Nothing}
 use Rattle.worker_turns.specs.Trapped.{IsJobSame, IsCallSame, StaysTrapped}
 use Rattle.worker_turns.specs.Callings.{HasCalled}
 use Rattle.worker_turns.specs.Free.{Helps, RanToIdle}
@@ -56,7 +56,9 @@ jobs_then a b c p q = record {
 -- a trapped turn that did not leave keeps the call
 pub stays_same : (turn : Trapped) (old new : PassView) → ((receipt : Receipt) → turn ≡ Left receipt → ⊥) → StaysTrapped turn old new → IsCallSame old new
 stays_same (Left receipt) old new other stays = absurd (other receipt refl)
-stays_same _ old new other stays = stays
+stays_same Piece old new other stays = stays
+stays_same Launched old new other stays = stays
+stays_same Nothing old new other stays = stays
 
 core_none : (a b : HeldEnds ℕ) → b ≡ a → b ≡ record a { own = a.own ++ []; pushes = a.pushes + 0 }
 core_none a b is =

@@ -3,7 +3,7 @@ use Rattle.std.proofs.Common.{◌≡◌, ◌≢◌, true, false, refl, ap, subst
 use Rattle.std.specs.Prelude.{Option, Some}
 use Rattle.table_rule.specs.declared.view.HoldView.{HoldView}
 use Rattle.table_rule.specs.declared.view.View.{View}
-use Rattle.worker_crew.specs.Words.{CallState, Out}
+use Rattle.worker_crew.specs.Words.{CallState, NotCalled, Out, Got}
 use Rattle.worker_crew.specs.Passes.{is_trapped}
 use Rattle.worker_turns.specs.Code.Serving.{Holds}
 
@@ -12,8 +12,9 @@ pub not_out : (call : CallState) → is_trapped call ≡ false → call ≢ Out
 not_out call free out = let e : is_trapped call ≡ true = ap is_trapped out in absurd (cc)
 
 pub is_out : (call : CallState) → is_trapped call ≡ true → call ≡ Out
+is_out NotCalled trapped = absurd (cc)
 is_out Out trapped = refl
-is_out _ trapped = absurd (cc)
+is_out (Got receipt) trapped = absurd (cc)
 
 -- the hold, where it is known
 pub held_at : (P : HoldView → Type 0) (hold : Option HoldView) (h : HoldView) → Holds P hold → hold ≡ Some h → P h

@@ -1,9 +1,10 @@
 -- The own deque of pieces while a launch hands out its pieces, and the looks at the stop word while it waits.
-use Rattle.std.proofs.Common.{◌≡◌, ℕ, ◌+◌, Result, Ok, Err, IfOk, List, [], ◌∷◌, ◌++◌, length, refl, sym, ap, ◌∙◌, arith, append_assoc, append-nil, length-append, inl, inr}
-use Rattle.std.proofs.lemmas.List.{map-append}
+use Rattle.std.proofs.Common.{◌≡◌, ℕ, ◌+◌, ◌≤◌, Result, Ok, Err, IfOk, List, [], ◌∷◌, ◌++◌, length, map, refl, sym, ap, ◌∙◌, arith, append_assoc, append-nil, length-append, inl, inr}
+use Rattle.std.proofs.lemmas.List.{map-append, length-map}
 use Rattle.two_deques.specs.declared.spot.Spot.{Spot}
 use Rattle.two_deques.specs.Ends.{HeldEnds, risen, after_push, with_newest, after_empty_pop}
 use Rattle.worker_crew.specs.Workers.{WorkerView}
+use Rattle.table_rule.specs.declared.view.PassView.{PassView}
 use Rattle.worker_turns.specs.declared.attempts.PieceAttempt.{PieceAttempt}
 use Rattle.worker_turns.specs.declared.attempts.PieceAttempt.TheVariants.{Ran, Stale, Empty}
 use Rattle.worker_turns.specs.Pieces.{Desk, IsOwnPiece, IsOtherPiece, IsSteal, spot_of, desk_after}
@@ -54,7 +55,8 @@ stole_then a b c first second = record { own = second.own ∙ first.own; pushes 
 
 steals : (victim : ℕ) (t : PieceAttempt) (old new : HeldEnds Spot) → IsSteal victim (spot_of t) old new → OnlyStole old new
 steals victim (Ran s) old new is = record { own = ap (λ (e : HeldEnds Spot). e.own) is; pushes = ap (λ (e : HeldEnds Spot). e.pushes) is; pops = ap (λ (e : HeldEnds Spot). e.empty_pops) is }
-steals victim _ old new is = record { own = ap (λ (e : HeldEnds Spot). e.own) is; pushes = ap (λ (e : HeldEnds Spot). e.pushes) is; pops = ap (λ (e : HeldEnds Spot). e.empty_pops) is }
+steals victim (Stale s) old new is = record { own = ap (λ (e : HeldEnds Spot). e.own) is; pushes = ap (λ (e : HeldEnds Spot). e.pushes) is; pops = ap (λ (e : HeldEnds Spot). e.empty_pops) is }
+steals victim Empty old new is = record { own = ap (λ (e : HeldEnds Spot). e.own) is; pushes = ap (λ (e : HeldEnds Spot). e.pushes) is; pops = ap (λ (e : HeldEnds Spot). e.empty_pops) is }
 
 -- another worker's deque was tried once, if there is one
 pub other_steals : (t : PieceAttempt) (a b : WorkerView) → IsOtherPiece t a b → OnlyStole a.batch b.batch
@@ -92,7 +94,8 @@ waits_same a b c first empty looks = omega (arith, first, empty, looks)
 
 tried_empty : (t : PieceAttempt) (d : Desk) → (desk_after t d).empty_collects ≡ d.empty_collects
 tried_empty (Ran s) d = refl
-tried_empty _ d = refl
+tried_empty (Stale s) d = refl
+tried_empty Empty d = refl
 
 pub own_waits : (t : PieceAttempt) (old a b : WorkerView) → IsOwnPiece t a b → LooksWhileWaiting old a → LooksWhileWaiting old b
 own_waits t old a b path first = waits_same old a b first

@@ -16,6 +16,7 @@ use Rattle.batchcheck.specs.declared.verdict.CheckRefusal.{CheckRefusal}
 use Rattle.batchcheck.specs.declared.verdict.CheckRefusal.TheVariants.{JobTooLong, ReportTooLong, Job}
 use Rattle.batchcheck.specs.declared.verdict.Verdict.{Verdict}
 use Rattle.batchcheck.specs.declared.verdict.Verdict.TheVariants as verdict
+use Rattle.limits.specs.declared.TheConstants.{MOST_JOB_BYTES, MOST_REPORT_BYTES}
 
 -- the files that a check names
 abbrev pub files_in : Check → Files
@@ -24,7 +25,7 @@ files_in check = record { job = check.job.now; report = check.report.now }
 -- why no job was read of a file with these bytes, if they are known
 abbrev pub StopsJob : Stop CheckRefusal → Option (List ℕ) → Type 0 → Type 0
 StopsJob stop.ReadFault held ReadsFailed = ReadsFailed
-StopsJob (stop.Refused JobTooLong) held ReadsFailed = IfSome held (λ bytes. 1048576 < length bytes)
+StopsJob (stop.Refused JobTooLong) held ReadsFailed = IfSome held (λ bytes. MOST_JOB_BYTES < length bytes)
 StopsJob (stop.Refused ReportTooLong) held ReadsFailed = ⊥
 StopsJob (stop.Refused (Job fault)) held ReadsFailed = HasFault held fault
 StopsJob stop.Memory held ReadsFailed = Unit {0}
@@ -32,13 +33,13 @@ StopsJob stop.Memory held ReadsFailed = Unit {0}
 -- why no text of a report was read of a file with these bytes, if they are known
 abbrev pub StopsReport : Stop CheckRefusal → Option (List ℕ) → Type 0 → Type 0
 StopsReport stop.ReadFault held ReadsFailed = ReadsFailed
-StopsReport (stop.Refused ReportTooLong) held ReadsFailed = IfSome held (λ text. 8388608 < length text)
+StopsReport (stop.Refused ReportTooLong) held ReadsFailed = IfSome held (λ text. MOST_REPORT_BYTES < length text)
 StopsReport (stop.Refused _) held ReadsFailed = ⊥
 StopsReport stop.Memory held ReadsFailed = Unit {0}
 
 -- the bytes held for a job are refused: they are too many, or have a fault
 abbrev pub IsRefusedJob : List ℕ → Type 0
-IsRefusedJob bytes = (1048576 < length bytes) ⊎ ((fault : JobFault) × IsFaultOf bytes fault)
+IsRefusedJob bytes = (MOST_JOB_BYTES < length bytes) ⊎ ((fault : JobFault) × IsFaultOf bytes fault)
 
 -- the bytes of a job are held, and refused
 abbrev pub HoldsRefusedJob : Option (List ℕ) → Type 0

@@ -18,17 +18,18 @@ use Rattle.batchcheck.specs.declared.verdict.CheckRefusal.{CheckRefusal}
 use Rattle.batchcheck.specs.declared.verdict.CheckRefusal.TheVariants.{JobTooLong, ReportTooLong, Job}
 use Rattle.batchcheck.specs.declared.verdict.Verdict.{Verdict}
 use Rattle.batchcheck.specs.declared.verdict.Verdict.TheVariants as verdict
+use Rattle.limits.specs.declared.TheConstants.{MOST_JOB_BYTES, MOST_REPORT_BYTES, MOST_WORKERS}
 
 -- the bytes that were read are a text of this job
 pub record HasJob (held : Option (List ℕ)) (job : JobValue) : Type 0 where
   pub bytes : List ℕ
-  pub read : WasRead 1048576 held bytes
+  pub read : WasRead MOST_JOB_BYTES held bytes
   pub accepted : IsJobOf bytes job
 
 -- the bytes that were read have this fault
 pub record HasFault (held : Option (List ℕ)) (fault : JobFault) : Type 0 where
   pub bytes : List ℕ
-  pub read : WasRead 1048576 held bytes
+  pub read : WasRead MOST_JOB_BYTES held bytes
   pub why : IsFaultOf bytes fault
 
 -- Both files were read: one is a text of a job, and the other has this flaw as a report of the job. Without a flaw it is
@@ -37,7 +38,7 @@ pub record IsJudged (files : Files) (held : List ℕ → Option (List ℕ)) (fla
   pub job : JobValue
   pub has_job : HasJob (held files.job) job
   pub text : List ℕ
-  pub read : WasRead 8388608 (held files.report) text
+  pub read : WasRead MOST_REPORT_BYTES (held files.report) text
   pub judged : IsFlawOf job text flaw
 
 -- the same for the files that the words name; words that name none have no flaw to be told
@@ -55,8 +56,8 @@ Prints Judged _ old new = Keeps old new
 
 -- why the files are refused; the report is read, and may be too long, only where there is a job
 abbrev pub Refuses : Files → (List ℕ → Option (List ℕ)) → CheckRefusal → Type 0
-Refuses files held JobTooLong = IfSome (held files.job) (λ bytes. 1048576 < length bytes)
-Refuses files held ReportTooLong = ((job : JobValue) × HasJob (held files.job) job) × IfSome (held files.report) (λ text. 8388608 < length text)
+Refuses files held JobTooLong = IfSome (held files.job) (λ bytes. MOST_JOB_BYTES < length bytes)
+Refuses files held ReportTooLong = ((job : JobValue) × HasJob (held files.job) job) × IfSome (held files.report) (λ text. MOST_REPORT_BYTES < length text)
 Refuses files held (Job fault) = HasFault (held files.job) fault
 
 -- Why a verdict comes where there are files: by the bytes held, and by whether the fault count of the shelf or of out
@@ -83,7 +84,7 @@ verdict_on (Some flaw) = verdict.Flawed flaw
 pub record Holds (files : Files) (held : List ℕ → Option (List ℕ)) (job : JobValue) (text : List ℕ) : Type 0 where
   pub bytes : List ℕ
   pub told : held files.job ≡ Some bytes
-  pub short : length bytes ≤ 1048576
+  pub short : length bytes ≤ MOST_JOB_BYTES
   pub accepted : IsJobOf bytes job
   pub report_told : held files.report ≡ Some text
 
@@ -91,7 +92,7 @@ pub record Holds (files : Files) (held : List ℕ → Option (List ℕ)) (job : 
 pub record HasLawfulReport (job : JobValue) (text : List ℕ) : Type 0 where
   pub report : Report
   pub some : 1 ≤ report.workers
-  pub few : report.workers ≤ 32
+  pub few : report.workers ≤ MOST_WORKERS
   pub lawful : Lawful job report.workers report
   pub written : report_text job.names report ≡ text
 
@@ -99,22 +100,22 @@ pub record HasLawfulReport (job : JobValue) (text : List ℕ) : Type 0 where
 -- the one that the bytes call for, unless memory runs out.
 pub record Completes (files : Files) (held : List ℕ → Option (List ℕ)) (ended : Verdict) (ReadsFailed WritesFailed : Type 0) : Type 0 where
   pub job_too_long : (bytes : List ℕ) → held files.job ≡ Some bytes → ¬ ReadsFailed
-      → 1048576 < length bytes → IsUnlessMemory ended (verdict.Refused JobTooLong)
+      → MOST_JOB_BYTES < length bytes → IsUnlessMemory ended (verdict.Refused JobTooLong)
   pub bad_job : (bytes : List ℕ) (fault : JobFault) → held files.job ≡ Some bytes → ¬ ReadsFailed
-      → length bytes ≤ 1048576 → IsFaultOf bytes fault → IsUnlessMemory ended (verdict.Refused (Job fault))
+      → length bytes ≤ MOST_JOB_BYTES → IsFaultOf bytes fault → IsUnlessMemory ended (verdict.Refused (Job fault))
   pub report_too_long : (job : JobValue) (text : List ℕ) → Holds files held job text → ¬ ReadsFailed
-      → 8388608 < length text → IsUnlessMemory ended (verdict.Refused ReportTooLong)
+      → MOST_REPORT_BYTES < length text → IsUnlessMemory ended (verdict.Refused ReportTooLong)
   pub lawful : (job : JobValue) (text : List ℕ) → Holds files held job text → ¬ ReadsFailed → ¬ WritesFailed
-      → length text ≤ 8388608 → HasLawfulReport job text → IsUnlessMemory ended verdict.Lawful
+      → length text ≤ MOST_REPORT_BYTES → HasLawfulReport job text → IsUnlessMemory ended verdict.Lawful
   pub flawed : (job : JobValue) (text : List ℕ) (flaw : Flaw) → Holds files held job text → ¬ ReadsFailed → ¬ WritesFailed
-      → length text ≤ 8388608 → IsFlawOf job text (Some flaw) → IsUnlessMemory ended (verdict.Flawed flaw)
+      → length text ≤ MOST_REPORT_BYTES → IsFlawOf job text (Some flaw) → IsUnlessMemory ended (verdict.Flawed flaw)
 
 -- Where the shelf never fails, and what is printed of a flaw is within the room that out has left, the verdict is the one
 -- that the bytes held call for, unless memory runs out. A job that is refused decides whatever is held of the report.
 pub record IsAssured (files : Files) (held : List ℕ → Option (List ℕ)) (ended : Verdict) (never_fails : Bool) (room : ℕ) : Type 0 where
   pub job_too_long : (bytes : List ℕ) → held files.job ≡ Some bytes → IsTrue never_fails
-      → 1048576 < length bytes → IsUnlessMemory ended (verdict.Refused JobTooLong)
+      → MOST_JOB_BYTES < length bytes → IsUnlessMemory ended (verdict.Refused JobTooLong)
   pub bad_job : (bytes : List ℕ) (fault : JobFault) → held files.job ≡ Some bytes → IsTrue never_fails
-      → length bytes ≤ 1048576 → IsFaultOf bytes fault → IsUnlessMemory ended (verdict.Refused (Job fault))
+      → length bytes ≤ MOST_JOB_BYTES → IsFaultOf bytes fault → IsUnlessMemory ended (verdict.Refused (Job fault))
   pub judged : (job : JobValue) (text : List ℕ) (flaw : Option Flaw) → Holds files held job text → IsTrue never_fails
-      → length text ≤ 8388608 → IsFlawOf job text flaw → length (verdict_text flaw) ≤ room → IsUnlessMemory ended (verdict_on flaw)
+      → length text ≤ MOST_REPORT_BYTES → IsFlawOf job text flaw → length (verdict_text flaw) ≤ room → IsUnlessMemory ended (verdict_on flaw)

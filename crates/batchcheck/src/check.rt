@@ -9,23 +9,19 @@ ghost use Rattle.report_check.specs.Flaws.{IsFlawOf};
 ghost use Rattle.batchcheck.specs.Lines.{verdict_text};
 ghost use Rattle.batchcheck.specs.Outcomes.{HasJob, IsJudged, Refuses};
 ghost use Rattle.batchcheck.specs.Code.{files_in, end_line, AreHeld, StopsJob, StopsReport};
+ghost use Rattle.limits.specs.declared.TheConstants.{MOST_REPORT_BYTES};
 
 use crate::verdict::{CheckRefusal, Verdict, stopped};
 use crate::words::Check;
 use bt_io::{ReadErr, Shelf};
 use job_lang::laws::texts_have_one_job_or_fault;
 use job_lang::{JobErr, read_job};
+use limits::{MOST_JOB_BYTES, MOST_REPORT_BYTES};
 use program_io::{End, Line, Program, Stop, read_file};
 use report_check::{Flaw, check};
 use report_reader::{ReadReportErr, read_report};
 use sp_order::Job;
 use std::alloc::{AllocError, Global};
-
-/// The most bytes that a job's file may have.
-const MOST_JOB_BYTES: usize = 1_048_576;
-
-/// The most bytes that a report's file may have.
-const MOST_REPORT_BYTES: usize = 8_388_608;
 
 /// Reads the job of a file.
 fn read_job_of<I: Shelf>(
@@ -66,7 +62,7 @@ fn read_text_of<I: Shelf>(
     file: &str,
 ) -> Result<Vec<u8>, Stop<CheckRefusal>>
     requires { IsTrue (I.may shelf.old file.now) }
-    ensures ok { IfOk result (λ text. WasRead 8388608 (I.held shelf.old file.now) text.items) }
+    ensures ok { IfOk result (λ text. WasRead MOST_REPORT_BYTES (I.held shelf.old file.now) text.items) }
     ensures err { IfErr result (λ stop. StopsReport stop (I.held shelf.old file.now)
         (Rose (I.faults shelf.old) (I.faults shelf.new))) }
     ensures sure { IsTrue (I.never_fails shelf.old)

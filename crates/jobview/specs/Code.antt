@@ -19,6 +19,7 @@ use Rattle.jobview.specs.declared.status.ViewRefusal.{ViewRefusal}
 use Rattle.jobview.specs.declared.status.ViewRefusal.TheVariants.{TooLong, Job, TooDeep}
 use Rattle.jobview.specs.declared.status.ViewStatus.{ViewStatus}
 use Rattle.jobview.specs.declared.status.ViewStatus.TheVariants as status
+use Rattle.limits.specs.declared.TheConstants.{MOST_OPEN_BLOCKS}
 
 -- what a view asks for
 abbrev pub asked_in : View → Asked
@@ -26,12 +27,12 @@ asked_in view = record { file = view.file.now; form = view.form }
 
 -- the canonical text of a job that is at most 32 deep
 pub record IsTextOf (job : JobValue) (shown : List ℕ) : Type 0 where
-  pub deep : depth_of job.shape ≤ 32
+  pub deep : depth_of job.shape ≤ MOST_OPEN_BLOCKS
   pub are : shown ≡ canonical_text job
 
 -- why a job has no canonical text
 abbrev pub StopsText : Stop ViewRefusal → JobValue → Type 0
-StopsText (stop.Refused TooDeep) job = 32 < depth_of job.shape
+StopsText (stop.Refused TooDeep) job = MOST_OPEN_BLOCKS < depth_of job.shape
 StopsText (stop.Refused TooLong) job = ⊥
 StopsText (stop.Refused (Job fault)) job = ⊥
 StopsText stop.ReadFault job = ⊥

@@ -17,12 +17,13 @@ use Rattle.jobview.specs.declared.status.ViewRefusal.{ViewRefusal}
 use Rattle.jobview.specs.declared.status.ViewRefusal.TheVariants.{TooLong, Job, TooDeep}
 use Rattle.jobview.specs.declared.status.ViewStatus.{ViewStatus}
 use Rattle.jobview.specs.declared.status.ViewStatus.TheVariants as status
+use Rattle.limits.specs.declared.TheConstants.{MOST_JOB_BYTES, MOST_OPEN_BLOCKS}
 
 -- The text is one of a job that is at most 32 deep, and this is its canonical text.
 pub record IsCanonicalOf (bytes shown : List ℕ) : Type 0 where
   pub job : JobValue
   pub accepted : IsJobOf bytes job
-  pub deep : depth_of job.shape ≤ 32
+  pub deep : depth_of job.shape ≤ MOST_OPEN_BLOCKS
   pub are : shown ≡ canonical_text job
 
 -- this is what the form shows of the text
@@ -33,7 +34,7 @@ Shows Text bytes shown = IsCanonicalOf bytes shown
 -- this is what the form shows of the text that was read
 pub record IsShown (form : Form) (held : Option (List ℕ)) (shown : List ℕ) : Type 0 where
   pub bytes : List ℕ
-  pub read : WasRead 1048576 held bytes
+  pub read : WasRead MOST_JOB_BYTES held bytes
   pub shows : Shows form bytes shown
 
 -- the same for the file that the words name; of words that name none nothing is shown
@@ -50,23 +51,23 @@ Prints Shown _ old new = Keeps old new
 -- the bytes that were read have this fault
 pub record HasFault (held : Option (List ℕ)) (fault : JobFault) : Type 0 where
   pub bytes : List ℕ
-  pub read : WasRead 1048576 held bytes
+  pub read : WasRead MOST_JOB_BYTES held bytes
   pub why : IsFaultOf bytes fault
 
 -- the text is one of a job that is more than 32 deep
 pub record HasDeepJob (bytes : List ℕ) : Type 0 where
   pub job : JobValue
   pub accepted : IsJobOf bytes job
-  pub deep : 32 < depth_of job.shape
+  pub deep : MOST_OPEN_BLOCKS < depth_of job.shape
 
 -- the canonical text was asked for, and that of the bytes that were read is too deep
 abbrev pub IsTooDeep : Form → Option (List ℕ) → Type 0
 IsTooDeep Rows held = ⊥
-IsTooDeep Text held = (bytes : List ℕ) × WasRead 1048576 held bytes × HasDeepJob bytes
+IsTooDeep Text held = (bytes : List ℕ) × WasRead MOST_JOB_BYTES held bytes × HasDeepJob bytes
 
 -- why the file is refused
 abbrev pub Refuses : Form → Option (List ℕ) → ViewRefusal → Type 0
-Refuses form held TooLong = IfSome held (λ bytes. 1048576 < length bytes)
+Refuses form held TooLong = IfSome held (λ bytes. MOST_JOB_BYTES < length bytes)
 Refuses form held (Job fault) = HasFault held fault
 Refuses form held TooDeep = IsTooDeep form held
 
@@ -88,22 +89,22 @@ IsUnlessMemory ended wanted = (ended ≡ wanted) ⊎ (ended ≡ status.Memory)
 -- that the bytes call for, unless memory runs out.
 pub record Completes (form : Form) (held : Option (List ℕ)) (ended : ViewStatus) (ReadsFailed WritesFailed : Type 0) : Type 0 where
   pub too_long : (bytes : List ℕ) → held ≡ Some bytes → ¬ ReadsFailed
-      → 1048576 < length bytes → IsUnlessMemory ended (status.Refused TooLong)
+      → MOST_JOB_BYTES < length bytes → IsUnlessMemory ended (status.Refused TooLong)
   pub bad_job : (bytes : List ℕ) (fault : JobFault) → held ≡ Some bytes → ¬ ReadsFailed
-      → length bytes ≤ 1048576 → IsFaultOf bytes fault → IsUnlessMemory ended (status.Refused (Job fault))
+      → length bytes ≤ MOST_JOB_BYTES → IsFaultOf bytes fault → IsUnlessMemory ended (status.Refused (Job fault))
   pub too_deep : (bytes : List ℕ) → form ≡ Text → held ≡ Some bytes → ¬ ReadsFailed
-      → length bytes ≤ 1048576 → HasDeepJob bytes → IsUnlessMemory ended (status.Refused TooDeep)
+      → length bytes ≤ MOST_JOB_BYTES → HasDeepJob bytes → IsUnlessMemory ended (status.Refused TooDeep)
   pub shown : (bytes shown : List ℕ) → held ≡ Some bytes → ¬ ReadsFailed → ¬ WritesFailed
-      → length bytes ≤ 1048576 → Shows form bytes shown → IsUnlessMemory ended status.Done
+      → length bytes ≤ MOST_JOB_BYTES → Shows form bytes shown → IsUnlessMemory ended status.Done
 
 -- Where the shelf never fails, and what is shown is within the room that out has left, the status is the one that the
 -- bytes held call for, unless memory runs out.
 pub record IsAssured (form : Form) (held : Option (List ℕ)) (ended : ViewStatus) (never_fails : Bool) (room : ℕ) : Type 0 where
   pub too_long : (bytes : List ℕ) → held ≡ Some bytes → IsTrue never_fails
-      → 1048576 < length bytes → IsUnlessMemory ended (status.Refused TooLong)
+      → MOST_JOB_BYTES < length bytes → IsUnlessMemory ended (status.Refused TooLong)
   pub bad_job : (bytes : List ℕ) (fault : JobFault) → held ≡ Some bytes → IsTrue never_fails
-      → length bytes ≤ 1048576 → IsFaultOf bytes fault → IsUnlessMemory ended (status.Refused (Job fault))
+      → length bytes ≤ MOST_JOB_BYTES → IsFaultOf bytes fault → IsUnlessMemory ended (status.Refused (Job fault))
   pub too_deep : (bytes : List ℕ) → form ≡ Text → held ≡ Some bytes → IsTrue never_fails
-      → length bytes ≤ 1048576 → HasDeepJob bytes → IsUnlessMemory ended (status.Refused TooDeep)
+      → length bytes ≤ MOST_JOB_BYTES → HasDeepJob bytes → IsUnlessMemory ended (status.Refused TooDeep)
   pub shown : (bytes shown : List ℕ) → held ≡ Some bytes → IsTrue never_fails
-      → length bytes ≤ 1048576 → Shows form bytes shown → length shown ≤ room → IsUnlessMemory ended status.Done
+      → length bytes ≤ MOST_JOB_BYTES → Shows form bytes shown → length shown ≤ room → IsUnlessMemory ended status.Done

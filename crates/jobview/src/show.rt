@@ -3,6 +3,7 @@ ghost use Rattle.std.specs.Prelude.{◌≡◌, ◌≤◌, IfOk, IfErr, IsTrue, I
 ghost use Rattle.program_io.specs.Lines.{told_text};
 ghost use Rattle.jobview.specs.Outcomes.{Shows, IsShown, Refuses};
 ghost use Rattle.jobview.specs.Code.{end_line, IsTextOf, StopsText, StopsShowing};
+ghost use Rattle.limits.specs.declared.TheConstants.{MOST_JOB_BYTES};
 
 use crate::status::{ViewRefusal, status_of};
 use crate::words::{Form, View};
@@ -10,22 +11,17 @@ use bt_io::{ReadErr, Shelf};
 use job_lang::{JobErr, read_job};
 use job_writer::write_job;
 use leaf_places::rows_of;
+use limits::{MOST_JOB_BYTES, MOST_OPEN_BLOCKS};
 use program_io::{End, Line, Program, Stop, read_file};
 use sp_order::Job;
 use std::alloc::{AllocError, Global};
-
-/// The most bytes that a job's file may have.
-const MOST_JOB_BYTES: usize = 1_048_576;
-
-/// The most blocks in one another that a canonical text may have.
-const MOST_BLOCKS: u32 = 32;
 
 /// The canonical text of a job, if the job is not too deep for one.
 fn text_of(alloc: Global, job: &Job) -> Result<Vec<u8>, Stop<ViewRefusal>>
     ensures ok { IfOk result (λ shown. IsTextOf job.now shown.items) }
     ensures err { IfErr result (λ stop. StopsText stop job.now) }
 {
-    if job.depth() > MOST_BLOCKS {
+    if job.depth() > MOST_OPEN_BLOCKS {
         return Err(Stop::Refused(ViewRefusal::TooDeep));
     }
     match write_job(alloc, job) {
@@ -36,7 +32,7 @@ fn text_of(alloc: Global, job: &Job) -> Result<Vec<u8>, Stop<ViewRefusal>>
 
 /// What is shown of the job of a text in this form.
 fn show(alloc: Global, form: Form, bytes: &[u8]) -> Result<Vec<u8>, Stop<ViewRefusal>>
-    requires { length bytes.now ≤ 1048576 }
+    requires { length bytes.now ≤ MOST_JOB_BYTES }
     ensures ok { IfOk result (λ shown. Shows form bytes.now shown.items) }
     ensures err { IfErr result (λ stop. StopsShowing stop form bytes.now) }
 {

@@ -1,6 +1,7 @@
 //! The limits of jobs, of runs and of files, which contracts cite by name.
 //!
-//! Each limit stands here alone: no other crate spells its number. The crate depends on nothing.
+//! A contract that means a limit cites its name. The texts that programs print spell the numbers, and so do examples and
+//! tests. The crate depends on nothing.
 #![tactic(auto)]
 
 /// The most workers of a run, and so the most calls of one batch.
@@ -18,6 +19,12 @@ pub const PLACES: u32 = 56;
 /// The most turns of a schedule, which has one digit for each.
 pub const MOST_TURNS: usize = 65_536;
 
+/// The most leaves that are asked of a generated job.
+pub const MOST_GENERATED: u32 = 5_000;
+
+/// The most bytes of an object's name.
+pub const MOST_NAME_BYTES: usize = 32;
+
 /// The most bytes of a job.
 pub const MOST_JOB_BYTES: usize = 1_048_576;
 
@@ -32,3 +39,6 @@ pub const MOST_BATCH_CALLS: usize = 32;
 
 /// The most calls of a script.
 pub const MOST_SCRIPT_CALLS: u32 = 100_000;
+
+/// The most keys that one call of a bulk set carries.
+pub const MOST_BULK_KEYS: usize = 64;

@@ -22,10 +22,6 @@ pub record AreOneBatch (calls : List Call) : Type 0 where
   pub workers : AreDistinct (map (λ call. call.worker) calls)
   pub below : AllByRecursion (λ call. call.worker < MOST_WORKERS) calls
 
--- the kind of a shared object, under its other name
-abbrev pub ObjectKind : Type 0
-ObjectKind = Kind
-
 -- all calls are of one kind
 abbrev pub AreOf : Kind → List Call → Type 0
 AreOf kind calls = AllByRecursion (λ call. kind_of call.op ≡ kind) calls

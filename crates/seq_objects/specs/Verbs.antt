@@ -1,5 +1,6 @@
--- The table of verbs: for each verb the kind of its objects, its word, and whether an argument follows. Kinds and words
--- have a text each, by which jobs and reports write them.
+-- The table of verbs: for each verb the kind of its objects, its word, whether an argument follows, and its class: in a
+-- batch, calls of a lower class take effect first. Kinds and words have a text each, by which jobs and reports write
+-- them.
 use Rattle.std.specs.Prelude.{ℕ, Bool, true, false, ◌&&◌, List, [], ◌∷◌, codes}
 use Rattle.std.specs.declared.option.Option.{Option}
 use Rattle.std.specs.List.{find}
@@ -15,15 +16,15 @@ pub use Rattle.seq_objects.specs.declared.kind.Kind.TheVariants.{Counter, Stack,
 
 -- the row of each verb
 abbrev pub row_of : Verb → VerbRow
-row_of verb.CounterAdd = record { kind = Counter; word = word.Add; takes_argument = true }
-row_of verb.Push = record { kind = Stack; word = word.Push; takes_argument = true }
-row_of verb.Pop = record { kind = Stack; word = word.Pop; takes_argument = false }
-row_of verb.TreeInsert = record { kind = Tree; word = word.Insert; takes_argument = true }
-row_of verb.TreeRemove = record { kind = Tree; word = word.Remove; takes_argument = true }
-row_of verb.TreeFind = record { kind = Tree; word = word.Find; takes_argument = true }
-row_of verb.TreeNext = record { kind = Tree; word = word.Next; takes_argument = true }
-row_of verb.PqInsert = record { kind = Queue; word = word.Insert; takes_argument = true }
-row_of verb.PqTake = record { kind = Queue; word = word.Take; takes_argument = false }
+row_of verb.CounterAdd = record { kind = Counter; word = word.Add; takes_argument = true; class = 0 }
+row_of verb.Push = record { kind = Stack; word = word.Push; takes_argument = true; class = 1 }
+row_of verb.Pop = record { kind = Stack; word = word.Pop; takes_argument = false; class = 2 }
+row_of verb.TreeInsert = record { kind = Tree; word = word.Insert; takes_argument = true; class = 4 }
+row_of verb.TreeRemove = record { kind = Tree; word = word.Remove; takes_argument = true; class = 4 }
+row_of verb.TreeFind = record { kind = Tree; word = word.Find; takes_argument = true; class = 3 }
+row_of verb.TreeNext = record { kind = Tree; word = word.Next; takes_argument = true; class = 3 }
+row_of verb.PqInsert = record { kind = Queue; word = word.Insert; takes_argument = true; class = 5 }
+row_of verb.PqTake = record { kind = Queue; word = word.Take; takes_argument = false; class = 6 }
 
 -- the parts of a verb's row
 abbrev pub kind_of_verb : Verb → Kind

@@ -39,6 +39,8 @@ pub struct VerbRow {
     pub word: VerbWord,
     /// Whether an argument follows.
     pub takes_argument: bool,
+    /// The place of its calls in a batch: those of a lower class take effect first.
+    pub class: u32,
 }
 
 impl VerbWord {
@@ -87,21 +89,22 @@ impl Verb {
     pub fn row(self) -> VerbRow
         ensures { result ≡ row_of self }
     {
-        let (kind, word, takes_argument) = match self {
-            Verb::CounterAdd => (Kind::Counter, VerbWord::Add, true),
-            Verb::Push => (Kind::Stack, VerbWord::Push, true),
-            Verb::Pop => (Kind::Stack, VerbWord::Pop, false),
-            Verb::TreeInsert => (Kind::Tree, VerbWord::Insert, true),
-            Verb::TreeRemove => (Kind::Tree, VerbWord::Remove, true),
-            Verb::TreeFind => (Kind::Tree, VerbWord::Find, true),
-            Verb::TreeNext => (Kind::Tree, VerbWord::Next, true),
-            Verb::PqInsert => (Kind::Queue, VerbWord::Insert, true),
-            Verb::PqTake => (Kind::Queue, VerbWord::Take, false),
+        let (kind, word, takes_argument, class) = match self {
+            Verb::CounterAdd => (Kind::Counter, VerbWord::Add, true, 0),
+            Verb::Push => (Kind::Stack, VerbWord::Push, true, 1),
+            Verb::Pop => (Kind::Stack, VerbWord::Pop, false, 2),
+            Verb::TreeInsert => (Kind::Tree, VerbWord::Insert, true, 4),
+            Verb::TreeRemove => (Kind::Tree, VerbWord::Remove, true, 4),
+            Verb::TreeFind => (Kind::Tree, VerbWord::Find, true, 3),
+            Verb::TreeNext => (Kind::Tree, VerbWord::Next, true, 3),
+            Verb::PqInsert => (Kind::Queue, VerbWord::Insert, true, 5),
+            Verb::PqTake => (Kind::Queue, VerbWord::Take, false, 6),
         };
         VerbRow {
             kind,
             word,
             takes_argument,
+            class,
         }
     }
 

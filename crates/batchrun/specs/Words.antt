@@ -5,7 +5,7 @@ use Rattle.std.specs.Option.{option_map, option_and_then}
 use Rattle.std.specs.Str.{bytes_eq}
 use Rattle.std.specs.declared.string.String.{String}
 use Rattle.std.specs.declared.alloc.Global.{Global}
-use Rattle.limits.specs.declared.TheConstants.{MOST_TURNS, MOST_WORKERS}
+use Rattle.limits.specs.declared.TheConstants.{MOST_GENERATED, MOST_TURNS, MOST_WORKERS}
 use Rattle.decimals.specs.Words.{number_between}
 
 -- The commands. `step` runs the job of a file by turns on one thread: first those of the workers that the schedule
@@ -22,7 +22,7 @@ workers_in word = number_between 1 MOST_WORKERS word
 
 -- the size of a generated job: 1 to 5,000
 abbrev pub size_in : List ℕ → Option ℕ
-size_in word = number_between 1 5000 word
+size_in word = number_between 1 MOST_GENERATED word
 
 -- the seed of a generated job: 0 to 2^64 - 1
 abbrev pub seed_in : List ℕ → Option ℕ

@@ -1,6 +1,6 @@
 //! The command line: the words after the program's name, and the commands that they may be.
 ghost use Rattle.std.specs.Prelude.{◌<◌, ◌≤◌, IsTrue};
-ghost use Rattle.limits.specs.declared.TheConstants.{MOST_WORKERS};
+ghost use Rattle.limits.specs.declared.TheConstants.{MOST_GENERATED, MOST_WORKERS};
 ghost use Rattle.batchrun.specs.Words.{is_schedule};
 
 mod parser;
@@ -36,7 +36,7 @@ pub(crate) struct GenCommand {
     pub(crate) seed: u64,
     pub(crate) workers: u32,
     ghost some_calls: { 0 < size },
-    ghost few_calls: { size ≤ 5000 },
+    ghost few_calls: { size ≤ MOST_GENERATED },
     ghost some_workers: { 0 < workers },
     ghost few_workers: { workers ≤ MOST_WORKERS },
 }

@@ -6,6 +6,7 @@ use Rattle.std.specs.Str.{IsAscii, IsUtf8}
 use Rattle.std.proofs.lemmas.Grind.{common_steps}
 use Rattle.std.proofs.lemmas.Str.{IsUtf8-from_ascii}
 use Rattle.std.proofs.lemmas.Str.Ascii.{IsAscii-nil}
+use Rattle.limits.specs.declared.TheConstants.{MOST_NAME_BYTES}
 use Rattle.job_names.specs.Names.{is_letter, is_in_name, is_spelled, name_of, spelling}
 use Rattle.job_names.proofs.SameNames.{and_left, and_right}
 
@@ -32,7 +33,7 @@ spelled_is_text (byte ∷ text) h =
 
 -- the name of a text spells it
 pub spelling_back : (text : List ℕ) → spelling (name_of text) ≡ text
-spelling_back text = take-append_seam text (replicate (32 - length text) 0)
+spelling_back text = take-append_seam text (replicate (MOST_NAME_BYTES - length text) 0)
 
 -- two texts with one name are the same
 pub one_spelling : (text other : List ℕ) → name_of text ≡ name_of other → text ≡ other

@@ -1,12 +1,15 @@
 //! Names and their spelling.
 ghost use Rattle.std.specs.Prelude.{◌≡◌, ◌≤◌, true, length};
 ghost use Rattle.std.specs.List.{list_all};
+ghost use Rattle.limits.specs.declared.TheConstants.{MOST_NAME_BYTES};
 ghost use Rattle.job_names.specs.Names.{is_letter, is_in_name, is_spelled, name_of, spelling};
 
-/// A name of at most 32 bytes. Behind its own bytes there are zeros.
+use limits::MOST_NAME_BYTES;
+
+/// A name of at most `MOST_NAME_BYTES` bytes. Behind its own bytes there are zeros.
 #[derive(Clone, Copy, PartialEq, Eq, Hash)]
 pub struct Name {
-    pub bytes: [u8; 32],
+    pub bytes: [u8; MOST_NAME_BYTES],
     pub len: u8,
 }
 
@@ -28,7 +31,7 @@ impl Name {
     pub fn bytes(&self) -> &[u8]
         ensures { result.now ≡ spelling self.now }
     {
-        &self.bytes[..usize::from(self.len).min(32)]
+        &self.bytes[..usize::from(self.len).min(MOST_NAME_BYTES)]
     }
 
     /// Its spelling, as text.
@@ -72,16 +75,16 @@ pub fn is_spelled(text: &[u8]) -> bool
 {
     match text {
         [] => false,
-        [first, rest @ ..] => is_letter(*first) && (rest.len() <= 31 && are_in_name(rest)),
+        [first, rest @ ..] => is_letter(*first) && (rest.len() < MOST_NAME_BYTES && are_in_name(rest)),
     }
 }
 
-/// The name that a text of at most 32 bytes spells.
+/// The name that a text of at most `MOST_NAME_BYTES` bytes spells.
 pub fn name_of(text: &[u8]) -> Name
-    requires { length text.now ≤ 32 }
+    requires { length text.now ≤ MOST_NAME_BYTES }
     ensures { result ≡ name_of text.now }
 {
-    let mut bytes = [0; 32];
+    let mut bytes = [0; MOST_NAME_BYTES];
     bytes[..text.len()].copy_from_slice(text);
     Name {
         bytes,

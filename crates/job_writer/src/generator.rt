@@ -1,6 +1,7 @@
 //! The generator: a job that inserts into all structures, queries the tree, and empties the stack and the queue.
 ghost use Rattle.std.specs.Prelude.{◌≡◌, ◌+◌, ◌*◌, ◌≤◌, ◌++◌, map, length, IfOk, OnOk};
 ghost use Rattle.std.specs.List.{AllByRecursion};
+ghost use Rattle.limits.specs.declared.TheConstants.{MOST_GENERATED};
 ghost use Rattle.seq_objects.specs.Objects.{number_of};
 ghost use Rattle.sp_order.specs.Precedence.{tree_of, leaf_count};
 ghost use Rattle.job_writer.specs.Code.Draws.{HaveSmallKeys};
@@ -132,7 +133,7 @@ fn push_parts(
 /// The job with this growing phase: its parts, in series.
 #[tactic(auto, using(crate::proofs::GeneratorLemmas::Counts::leaves_are_acts, crate::proofs::GeneratorLemmas::Counts::few_acts, crate::proofs::GeneratorLemmas::Each::all_unnamed))]
 fn job_growing_by(alloc: Global, ops: &[Op]) -> Result<Job, AllocError>
-    requires few { length ops.now ≤ 5000 }
+    requires few { length ops.now ≤ MOST_GENERATED }
     requires small { HaveSmallKeys ops.now }
     requires first { AllByRecursion (λ op. number_of op ≡ 0) ops.now }
     ensures job { IfOk result (λ job. job ≡ job_growing_by ops.now) }
@@ -150,7 +151,7 @@ fn job_growing_by(alloc: Global, ops: &[Op]) -> Result<Job, AllocError>
 #[tactic(auto, using(crate::proofs::GeneratorLemmas::Draws::length_growing, crate::proofs::GeneratorLemmas::Draws::small_keys, crate::proofs::GeneratorLemmas::Draws::first_growing))]
 pub fn generate(alloc: Global, seed: u64, size: u32) -> Result<Job, AllocError>
     requires some { 1 ≤ size }
-    requires most { size ≤ 5000 }
+    requires most { size ≤ MOST_GENERATED }
     ensures job { IfOk result (λ job. job ≡ generated seed size) }
     ensures leaves { IfOk result (λ job. leaf_count job.shape ≤ 2 * size + 2) }
 {

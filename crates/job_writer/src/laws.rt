@@ -1,6 +1,7 @@
 //! The laws of texts that are written and of generated jobs, each as the contract of a function that does nothing.
 ghost use Rattle.std.specs.Prelude.{◌≡◌, ◌≤◌, ◌<◌, ◌+◌, ◌*◌, ◌^◌, ℕ, List, [], ◌∷◌, length, true, Some, None};
 ghost use Rattle.std.specs.List.{AllByRecursion};
+ghost use Rattle.limits.specs.declared.TheConstants.{MOST_GENERATED};
 ghost use Rattle.job_names.specs.Names.{is_spelled};
 ghost use Rattle.seq_objects.specs.Objects.{argument_of, number_of};
 ghost use Rattle.seq_objects.specs.Words.{op_words};
@@ -38,9 +39,9 @@ pub fn generated_jobs_have_few_leaves()
 /// The canonical text of a generated job of size at most 5,000 is a text of this job, with less than 700,000 bytes. The
 /// job is at most 15 deep, so the writer accepts it.
 pub fn generated_jobs_have_texts()
-    ensures depth { (seed size : ℕ) → size ≤ 5000 → depth_of (generated seed size).shape ≤ 15 }
-    ensures short { (seed size : ℕ) → size ≤ 5000 → length (canonical_text (generated seed size)) < 700000 }
-    ensures text { (seed size : ℕ) → size ≤ 5000
+    ensures depth { (seed size : ℕ) → size ≤ MOST_GENERATED → depth_of (generated seed size).shape ≤ 15 }
+    ensures short { (seed size : ℕ) → size ≤ MOST_GENERATED → length (canonical_text (generated seed size)) < 700000 }
+    ensures text { (seed size : ℕ) → size ≤ MOST_GENERATED
         → IsJobOf (canonical_text (generated seed size)) (generated seed size) }
 {}
 

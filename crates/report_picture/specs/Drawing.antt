@@ -2,6 +2,7 @@
 -- the lanes, `names` are those of the objects, and `behind` is the markup that stands behind.
 use Rattle.std.specs.Prelude.{ℕ, ◌+◌, ◌*◌, ◌-◌, List, [], ◌∷◌, length, codes, nat_le, if◌then◌else◌}
 use Rattle.std.specs.List.{range_with_len}
+use Rattle.limits.specs.declared.TheConstants.{MOST_WORKERS}
 use Rattle.seq_objects.specs.Words.{op_words, reply_words}
 use Rattle.batch_history.specs.declared.batch.Entry.{Entry}
 use Rattle.report_picture.specs.Markup.{Part, Say, Number, Tag, Group, Title, Label, Rect, Path, Key, Width, Height, X, Y, Fill, Stroke, Data, Attribute, Markup, Nothing, Words, Element, each}
@@ -96,6 +97,6 @@ draw_bar top mark count batches behind =
     (draw_plain 96 (top + 20 * mark) (bar_width count batches) 14 (codes "#6e7781")
     (draw_words (104 + bar_width count batches) (top + 12 + 20 * mark) (Number count ∷ []) Nothing))) behind
 
--- the batches by their numbers of calls, from 1 to 32: a bar for each
+-- the batches by their numbers of calls, from 1 to `MOST_WORKERS`: a bar for each
 abbrev pub draw_bars : ℕ → List (List Entry) → Markup → Markup
-draw_bars top book behind = each (λ mark. draw_bar top mark (sized (mark + 1) book) (length book)) (range_with_len 0 32) behind
+draw_bars top book behind = each (λ mark. draw_bar top mark (sized (mark + 1) book) (length book)) (range_with_len 0 MOST_WORKERS) behind

@@ -1,5 +1,6 @@
 //! What stands around the boxes and the brackets.
 ghost use Rattle.std.specs.Prelude.{◌≡◌, ◌++◌, ◌+◌, ◌*◌, ◌/◌, ◌≤◌, ◌<◌, OnOk};
+ghost use Rattle.limits.specs.declared.TheConstants.{MOST_WORKERS};
 ghost use Rattle.report_picture.specs.Code.Texts.{light_end, lane_text, lanes_text, tick_text, mark_text, marks_text, strip_name, legend_text, sheet_top, sheet_front, caption_text};
 
 use crate::bytes::{push_number, push_text};
@@ -59,7 +60,7 @@ fn push_light_end(text: &mut Vec<u8>) -> Result<(), AllocError>
 /// Appends the name of a worker's lane, and the line under it.
 #[tactic(auto, unfolding(crate::specs::Code::Texts::lane_text))]
 fn push_lane(text: &mut Vec<u8>, right: u64, worker: u32) -> Result<(), AllocError>
-    requires { worker ≤ 32 }
+    requires { worker ≤ MOST_WORKERS }
     ensures { OnOk result (text.new.items ≡ text.old.items ++ lane_text right worker) }
 {
     let top = (48 + 32 * worker) as u64;
@@ -74,7 +75,7 @@ fn push_lane(text: &mut Vec<u8>, right: u64, worker: u32) -> Result<(), AllocErr
 /// Appends the lanes.
 #[tactic(auto, unfolding(crate::specs::Code::Texts::lanes_text), using(crate::proofs::Ranges::flat_more))]
 pub(crate) fn push_lanes(text: &mut Vec<u8>, right: u64, workers: u32) -> Result<(), AllocError>
-    requires { workers ≤ 32 }
+    requires { workers ≤ MOST_WORKERS }
     ensures { OnOk result (text.new.items ≡ text.old.items ++ lanes_text right workers) }
 {
     for worker in 0..workers {

@@ -1,11 +1,13 @@
 //! The batches by their numbers of calls, as bars.
 ghost use Rattle.std.specs.Prelude.{◌≡◌, ◌++◌, ◌+◌, ◌*◌, ◌<◌, ◌≤◌, ◌^◌, length, OnOk};
+ghost use Rattle.limits.specs.declared.TheConstants.{MOST_WORKERS};
 ghost use Rattle.report_picture.specs.Boxes.{sized, bar_width};
 ghost use Rattle.report_picture.specs.Code.Texts.{bar_end, bar_text, bars_text, note_text};
 
 use crate::bytes::{push_number, push_text};
 use crate::shapes::{push_plain, push_words};
 use batch_history::Batch;
+use limits::MOST_WORKERS;
 use std::alloc::AllocError;
 
 /// How many batches of a book have this many calls.
@@ -52,7 +54,7 @@ fn push_bar(
     batches: usize,
 ) -> Result<(), AllocError>
     requires top { top ≤ 2000 }
-    requires mark { mark ≤ 32 }
+    requires mark { mark ≤ MOST_WORKERS }
     requires count { count < 2 ^ 32 }
     requires batches { batches < 2 ^ 32 }
     ensures { OnOk result (text.new.items ≡ text.old.items ++ bar_text top mark count batches) }
@@ -67,14 +69,14 @@ fn push_bar(
     push_bar_end(text, 104 + width, base, count)
 }
 
-/// Appends the bars of a book, one for each number of calls from 1 to 32.
+/// Appends the bars of a book, one for each number of calls from 1 to `MOST_WORKERS`.
 #[tactic(auto, unfolding(crate::specs::Code::Texts::bars_text), using(crate::proofs::Ranges::flat_more))]
 pub(crate) fn push_bars(text: &mut Vec<u8>, top: u32, book: &[Batch]) -> Result<(), AllocError>
     requires top { top ≤ 2000 }
     requires batches { length book.now < 2 ^ 32 }
     ensures { OnOk result (text.new.items ≡ text.old.items ++ bars_text top book.now) }
 {
-    for mark in 0..32 {
+    for mark in 0..MOST_WORKERS {
         let count = count_sized(book, mark as usize + 1);
         push_bar(text, top, mark, count, book.len())?;
     }

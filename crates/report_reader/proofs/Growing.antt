@@ -1,10 +1,12 @@
 -- Tables that grow by a name, and what they keep.
 use Rattle.std.proofs.Common.{◌≡◌, ℕ, ◌+◌, ◌-◌, ◌<◌, ◌≤◌, ◌⊎◌, inl, inr, true, List, [], ◌∷◌, ◌++◌, length, map, get_or, Some, None, refl, sym, ap, subst, ◌∙◌, append-nil, length-append, arith}
-use Rattle.std.specs.Prelude.{◌==◌, nat_le}
+use Rattle.std.specs.Prelude.{◌==◌}
 use Rattle.std.specs.List.{list_all}
+use Rattle.std.proofs.lemmas.Bool.{ltb-true}
 use Rattle.std.proofs.lemmas.Bool.Decides.{nat_tests}
 use Rattle.std.proofs.lemmas.List.{map-append, length-map, get_or_append_left}
 use Rattle.std.proofs.Math.Seq.{get_or-append_seam}
+use Rattle.limits.specs.declared.TheConstants.{MOST_NAME_BYTES}
 use Rattle.job_names.specs.Names.{AreSpelled, is_letter, is_in_name, is_spelled, name_of, spelling}
 use Rattle.job_names.specs.declared.name.Name.{Name}
 use Rattle.sp_order.specs.Objects.{name_of_number}
@@ -15,13 +17,10 @@ use Rattle.job_names.proofs.SameNames.{and_left, and_right}
 use Rattle.job_names.proofs.Spellings.{spelling_back, one_spelling}
 use Rattle.seq_objects.proofs.Elements.{each_append}
 
-at_most : (n m : ℕ) → nat_le n m ≡ true → n ≤ m
-at_most n m e = grind (arith, e)
-
--- a name has at most 32 bytes, and is the spelling of itself
-pub spelled_short : (text : List ℕ) → is_spelled text ≡ true → length text ≤ 32
+-- a name has at most `MOST_NAME_BYTES` bytes, and is the spelling of itself
+pub spelled_short : (text : List ℕ) → is_spelled text ≡ true → length text ≤ MOST_NAME_BYTES
 spelled_short [] is = omega arith
-spelled_short (byte ∷ text) is = let few = at_most (length text) 31 (and_left _ (list_all (λ byte. is_in_name byte) text) (and_right (is_letter byte) _ is)) in omega (arith, few)
+spelled_short (byte ∷ text) is = let few = ltb-true (length text) MOST_NAME_BYTES (and_left _ (list_all (λ byte. is_in_name byte) text) (and_right (is_letter byte) _ is)) in omega (arith, few)
 
 -- the new table has one name more, under the next number
 pub record AddsName (old new : Table) (kind : Kind) (name : List ℕ) (number : ℕ) : Type 0 where

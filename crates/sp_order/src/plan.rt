@@ -1,5 +1,6 @@
 //! Plans: the nodes of a job's shape, numbered in preorder.
-ghost use Rattle.std.specs.Prelude.{◌≡◌, ◌<◌, ◌≤◌, ◌↔◌, Some, IsSome, IsTrue, IfOk};
+ghost use Rattle.std.specs.Prelude.{◌≡◌, ◌<◌, ◌*◌, ◌≤◌, ◌↔◌, Some, IsSome, IsTrue, IfOk};
+ghost use Rattle.limits.specs.declared.TheConstants.{MOST_LEAVES};
 ghost use Rattle.sp_order.specs.Precedence.{leaves, IsBefore};
 ghost use Rattle.sp_order.specs.Preorder.{nodes_of};
 
@@ -58,7 +59,7 @@ impl Plan {
     /// The number of nodes. They are numbered from 0.
     pub fn nodes(&self) -> u32
         ensures nodes { result ≡ (nodes_of self.now).count }
-        ensures most { result < 40000 }
+        ensures most { result < 2 * MOST_LEAVES }
     {
         self.built.kinds.len() as u32
     }

@@ -1,5 +1,6 @@
 //! A job with its plan: the form of a job that a run keeps.
-ghost use Rattle.std.specs.Prelude.{◌≡◌, ◌<◌, Some, IsSome, IfOk, slice_get};
+ghost use Rattle.std.specs.Prelude.{◌≡◌, ◌<◌, ◌*◌, Some, IsSome, IfOk, slice_get};
+ghost use Rattle.limits.specs.declared.TheConstants.{MOST_LEAVES};
 ghost use Rattle.sp_order.specs.Jobs.{IsJob, job_tree};
 ghost use Rattle.sp_order.specs.Precedence.{leaves};
 ghost use Rattle.sp_order.specs.Preorder.{nodes_of};
@@ -59,7 +60,7 @@ impl PlannedJob {
     /// The number of nodes of the plan. They are numbered from 0.
     pub fn nodes(&self) -> u32
         ensures nodes { result ≡ (nodes_of (job_tree self.now)).count }
-        ensures most { result < 40000 }
+        ensures most { result < 2 * MOST_LEAVES }
         ensures shape { self.now.shape ≡ Some (job_tree self.now) }
         ensures job { IsJob self.now }
     {

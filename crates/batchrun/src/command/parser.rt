@@ -7,7 +7,7 @@ ghost use Rattle.batchrun.specs.Code.Commands.{command_in, step_in, run_in, gen_
 use crate::command::schedule::is_schedule;
 use crate::command::{Command, GenCommand, RunCommand, StepCommand};
 use decimals::number_between;
-use limits::MOST_WORKERS;
+use limits::{MOST_GENERATED, MOST_WORKERS};
 
 /// The number of workers that a word gives.
 fn workers_asked(word: &str) -> Option<u32>
@@ -16,11 +16,11 @@ fn workers_asked(word: &str) -> Option<u32>
     number_between(word.as_bytes(), 1, u64::from(MOST_WORKERS)).map(|workers| workers as u32)
 }
 
-/// The size of a generated job that a word gives, from 1 to 5,000.
+/// The size of a generated job that a word gives, from 1 to `MOST_GENERATED`.
 fn size_asked(word: &str) -> Option<u32>
     ensures { result ≡ size_in word.now }
 {
-    number_between(word.as_bytes(), 1, 5_000).map(|size| size as u32)
+    number_between(word.as_bytes(), 1, u64::from(MOST_GENERATED)).map(|size| size as u32)
 }
 
 /// The `step` command of these words, if they are one.

@@ -1,5 +1,6 @@
 //! The run of each command: it reads or generates the job, runs it, and writes the report or its summary.
 ghost use Rattle.std.specs.Prelude.{◌≡◌, ◌≤◌, ℕ, Some, Err, length, IsSome, IfOk, IfSome, IsTrue};
+ghost use Rattle.limits.specs.declared.TheConstants.{MOST_GENERATED};
 ghost use Rattle.bt_io.specs.Causes.{Rose};
 ghost use Rattle.batch_history.specs.Lawful.{Lawful};
 ghost use Rattle.batch_history.specs.Summary.{CanBeSummed, summary_of_report, summary_of_job};
@@ -114,7 +115,7 @@ pub(crate) fn run_file<R: Threads + Wait + Sync, I: Shelf, O: Sink, G: Pause + S
 /// Every lawful report of a generated job has the summary of that job, which can be made. For proofs only; it does
 /// nothing.
 fn generated_jobs_have_one_summary()
-    ensures sums { (seed size workers : ℕ) (report : Report) → 1 ≤ size → size ≤ 5000
+    ensures sums { (seed size workers : ℕ) (report : Report) → 1 ≤ size → size ≤ MOST_GENERATED
         → Lawful (generated seed size) workers report → CanBeSummed (generated seed size) report }
     ensures lines { (seed size workers : ℕ) (report : Report) → 1 ≤ size
         → Lawful (generated seed size) workers report

@@ -13,7 +13,7 @@ use Rattle.sp_order.specs.Plans.{IsPlan}
 use Rattle.sp_order.specs.Jobs.{JobValue, job_tree}
 use Rattle.sp_order.specs.Precedence.{leaves}
 use Rattle.sp_order.specs.Preorder.{nodes_of}
-use Rattle.std.specs.Prelude.{Some, length, ℕ, ◌<◌, ◌≡◌, ◌≤◌}
+use Rattle.std.specs.Prelude.{Some, length, ℕ, ◌<◌, ◌≡◌, ◌≤◌, ◌*◌}
 
 -- the invariant of a stored state for a job and a number of workers
 pub record RepInvariant (job : JobValue) (workers : ℕ) (t : StoredState) : Type 0 where
@@ -21,7 +21,7 @@ pub record RepInvariant (job : JobValue) (workers : ℕ) (t : StoredState) : Typ
   pub few : workers ≤ MOST_WORKERS
   pub shape : job.shape ≡ Some (job_tree job)
   pub laws : IsPlan (nodes_of (job_tree job))
-  pub most : (nodes_of (job_tree job)).count < 40000
+  pub most : (nodes_of (job_tree job)).count < 2 * MOST_LEAVES
   pub leaves : leaves (job_tree job) ≡ length job.acts
   pub leaves_in : (n : ℕ) → LeafIn (length job.acts) ((nodes_of (job_tree job)).kind n)
   -- the number of a calling leaf is below the number of nodes

@@ -1,10 +1,11 @@
 -- A kind word, with the name of an object behind a colon if it has one, is one token, which spells this word.
 use Rattle.std.proofs.Common.{◌≡◌, ℕ, zero, suc, ◌<◌, List, [], ◌∷◌, ◌++◌, length, Bool, true, refl, ◌∙◌, arith}
-use Rattle.std.specs.Prelude.{◌&&◌, slice_index_or, nat_le}
+use Rattle.std.specs.Prelude.{◌&&◌, slice_index_or, nat_lt}
 use Rattle.std.specs.List.{list_all}
 use Rattle.std.proofs.lemmas.Bool.{and_parts, and_from}
 use Rattle.std.proofs.lemmas.List.Folds.{list_all-append}
 use Rattle.std.proofs.lemmas.Grind.{common_steps}
+use Rattle.limits.specs.declared.TheConstants.{MOST_NAME_BYTES}
 use Rattle.seq_objects.specs.declared.kind.Kind.{Kind}
 use Rattle.seq_objects.specs.declared.kind.Kind.TheVariants.{Counter}
 use Rattle.seq_objects.specs.Words.{kind_words, name_words}
@@ -33,8 +34,8 @@ letter_in_name byte h = grind (arith, common_steps, h)
 pub each_spelled : (test : ℕ → Bool) → ((byte : ℕ) → is_in_name byte ≡ true → test byte ≡ true) → (text : List ℕ) → is_spelled text ≡ true → list_all test text ≡ true
 each_spelled test pass [] h = refl
 each_spelled test pass (byte ∷ text) h =
-    let first = and_parts (is_letter byte) (nat_le (length text) 31 && list_all (λ byte. is_in_name byte) text) h in
-    let rest = and_parts (nat_le (length text) 31) (list_all (λ byte. is_in_name byte) text) first.1 in
+    let first = and_parts (is_letter byte) (nat_lt (length text) MOST_NAME_BYTES && list_all (λ byte. is_in_name byte) text) h in
+    let rest = and_parts (nat_lt (length text) MOST_NAME_BYTES) (list_all (λ byte. is_in_name byte) text) first.1 in
     and_from (test byte) (list_all test text) (pass byte (letter_in_name byte first.0)) (each_in test pass text rest.1)
 
 in_chunk : (byte : ℕ) → is_in_name byte ≡ true → is_in_chunk byte ≡ true

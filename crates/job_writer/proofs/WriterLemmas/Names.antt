@@ -2,9 +2,10 @@
 use Rattle.std.proofs.Common.{◌≡◌, ℕ, ◌+◌, ◌<◌, ◌≤◌, ◌^◌, List, ◌∷◌, ◌++◌, length, drop, true, false, refl, sym, ap, ◌∙◌, arith}
 use Rattle.std.specs.Fmt.{decimal}
 use Rattle.std.specs.List.{list_all}
-use Rattle.std.proofs.lemmas.Bool.{and_from, le-leb}
+use Rattle.std.proofs.lemmas.Bool.{and_from, lt-ltb}
 use Rattle.std.proofs.lemmas.Fmt.{length-decimal-le}
 use Rattle.std.proofs.lemmas.Grind.{common_steps}
+use Rattle.limits.specs.declared.TheConstants.{MOST_NAME_BYTES}
 use Rattle.job_names.specs.declared.name.Name.{Name}
 use Rattle.job_names.specs.Names.{is_in_name, is_spelled, name_of}
 use Rattle.job_syntax.specs.declared.lexer.word.Word.TheVariants.{Named}
@@ -26,7 +27,7 @@ decimal_few n small = length-decimal-le 10 n (omega arith) (omega (arith, small)
 spelled : (n : ℕ) → n < 2 ^ 32 → is_spelled (118 ∷ decimal n) ≡ true
 spelled n small =
     let few = decimal_few n small in
-    and_from _ _ (le-leb (length (decimal n)) 31 (omega (arith, few))) (each_byte (λ byte. is_in_name byte) digit_in_name n small)
+    and_from _ _ (lt-ltb (length (decimal n)) MOST_NAME_BYTES (omega (arith, few))) (each_byte (λ byte. is_in_name byte) digit_in_name n small)
 
 not_quoted : (text : List ℕ) → word_of (118 ∷ text) ≡ argument_word (118 ∷ text)
 not_quoted text = refl

@@ -1,6 +1,7 @@
 -- The text of each part of the picture, in the pieces that the code writes. The names are those of the objects.
 use Rattle.std.specs.Prelude.{ℕ, ◌+◌, ◌*◌, ◌-◌, ◌/◌, List, [], ◌∷◌, ◌++◌, length, codes, nat_le, nat_lt, if◌then◌else◌, Option, None, Some}
 use Rattle.std.specs.List.{flat_map, range_with_len}
+use Rattle.limits.specs.declared.TheConstants.{MOST_WORKERS}
 use Rattle.std.specs.Fmt.{decimal}
 use Rattle.seq_objects.specs.Words.{op_words, reply_words}
 use Rattle.batch_history.specs.declared.batch.Entry.{Entry}
@@ -182,7 +183,7 @@ bar_text top mark count batches =
     ++ bar_end (104 + bar_width count batches) (top + 12 + 20 * mark) count)))))
 
 unfoldable pub bars_text : ℕ → List (List Entry) → List ℕ
-bars_text top book = flat_map (λ mark. bar_text top mark (sized (mark + 1) book) (length book)) (range_with_len 0 32)
+bars_text top book = flat_map (λ mark. bar_text top mark (sized (mark + 1) book) (length book)) (range_with_len 0 MOST_WORKERS)
 
 -- a rectangle without a title
 unfoldable pub plain_text : ℕ → ℕ → ℕ → ℕ → List ℕ → List ℕ

@@ -1,6 +1,6 @@
 -- When a report is lawful for a job and a number of workers. The seven parts are rows, order, calls, replies, ticks,
--- batches and values. Only the values depend on what the leaves of work compute: `work` takes the number of such a leaf
--- to its value, and is `spin_of` where nothing else is said.
+-- batches and values. Only the values depend on what the leaves of work compute: `meaning` takes the number of such a
+-- leaf to its value, and is `spin_of` where nothing else is said.
 use Rattle.std.specs.Prelude.{◌≡◌, ◌≢◌, ℕ, ◌*◌, ◌<◌, ◌⊎◌, List, [], ◌∷◌, map, slice_get, Some, IsSomeAnd, Contains}
 use Rattle.std.specs.Option.{ForSome}
 use Rattle.std.specs.List.{AllByRecursion, range_with_len}
@@ -58,21 +58,21 @@ KeepsTicks report =
     → ForRows report first.leaf second.leaf (λ row row'. row.end < row'.start → b < c)
 
 -- A leaf of work has the value of its work, and a calling leaf that of its reply.
-pub record HasValuesWith (work : ℕ → ℕ) (job : JobValue) (report : Report) : Type 0 where
-  pub work : (leaf steps : ℕ) → slice_get job.acts leaf ≡ Some (Work steps) → ForSome (slice_get report.rows leaf) (λ row. row.value ≡ work steps)
+pub record HasValuesWith (meaning : ℕ → ℕ) (job : JobValue) (report : Report) : Type 0 where
+  pub work : (leaf steps : ℕ) → slice_get job.acts leaf ≡ Some (Work steps) → ForSome (slice_get report.rows leaf) (λ row. row.value ≡ meaning steps)
   pub calls : AllByRecursion (λ entry. ForSome (slice_get report.rows entry.leaf) (λ row. row.value ≡ value_of entry.reply)) (flat report.history)
 
 abbrev pub HasValues : JobValue → Report → Type 0
 HasValues = HasValuesWith spin_of
 
-pub record LawfulWith (work : ℕ → ℕ) (job : JobValue) (workers : ℕ) (report : Report) : Type 0 where
+pub record LawfulWith (meaning : ℕ → ℕ) (job : JobValue) (workers : ℕ) (report : Report) : Type 0 where
   pub rows : HasRows job workers report
   pub order : KeepsOrder job report
   pub calls : HasCalls job report
   pub replies : IsLegal report.history
   pub ticks : KeepsTicks report
   pub batches : AllByRecursion IsBatch report.history
-  pub values : HasValuesWith work job report
+  pub values : HasValuesWith meaning job report
 
 -- lawful where a leaf of work spins
 abbrev pub Lawful : JobValue → ℕ → Report → Type 0

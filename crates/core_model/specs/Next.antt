@@ -6,7 +6,6 @@ use Rattle.core_model.specs.Words.{Event, ArriveFirst, ArriveSecond, End, Finish
 use Rattle.core_model.specs.declared.next.Next.{Next}
 use Rattle.core_model.specs.declared.next.Next.TheVariants as acts
 use Rattle.seq_objects.specs.Objects.{value_of}
-use Rattle.seq_objects.specs.Spin.{spin_of}
 use Rattle.std.specs.Prelude.{None, Option, Some, if◌then◌else◌, ℕ, ◌==◌, ◌≡◌}
 
 -- the act at a series block, from its two sides; a node of another kind has none
@@ -76,16 +75,17 @@ next_act job (Ended n start end) call = Some (acts.Finish n (FinishLeaf n start 
 next_act job (Whole n) call = act_of_whole job.plan (job.plan.after n) n
 next_act job (Handed p) call = act_of_handed (job.plan.kind p) p
 
--- the event that the act is, from the number of sides that have arrived at each parallel block
-abbrev pub event_of : (ℕ → ℕ) → Next → Event
-event_of mark (acts.Start n leaf) = Start n
-event_of mark (acts.Open n task event) = event
-event_of mark (acts.Spin n start steps) = Keep n start (spin_of steps)
-event_of mark (acts.Call n start leaf op) = Post n start
-event_of mark (acts.Got n start reply) = Keep n start (value_of reply)
-event_of mark (acts.End n start) = End n start
-event_of mark (acts.Finish n event) = event
-event_of mark (acts.Arrive p left right n) = if mark p == 0 then ArriveFirst p left right n else ArriveSecond p left right n
+-- the event that the act is, where a leaf of work computes `work`, from the number of sides that have arrived at each
+-- parallel block
+abbrev pub event_of : (ℕ → ℕ) → (ℕ → ℕ) → Next → Event
+event_of work mark (acts.Start n leaf) = Start n
+event_of work mark (acts.Open n task event) = event
+event_of work mark (acts.Spin n start steps) = Keep n start (work steps)
+event_of work mark (acts.Call n start leaf op) = Post n start
+event_of work mark (acts.Got n start reply) = Keep n start (value_of reply)
+event_of work mark (acts.End n start) = End n start
+event_of work mark (acts.Finish n event) = event
+event_of work mark (acts.Arrive p left right n) = if mark p == 0 then ArriveFirst p left right n else ArriveSecond p left right n
 
 -- the kind of that event
 abbrev pub kind_of_act : Next → EventKind
@@ -112,8 +112,8 @@ task_left tick mark (acts.Arrive p left right n) = if mark p == 0 then Idle else
 -- The act is an event of worker `w` in state `s`.
 pub record IsNextEvent (job : CoreJob) (s : State) (w : ℕ) (act : Next) : Type 0 where
   -- the needs of the event are met
-  pub needs : Needs job s w (event_of s.mark act)
+  pub needs : Needs job s w (event_of job.work s.mark act)
   -- the event is of the act's kind
-  pub kind : kind_of (event_of s.mark act) ≡ kind_of_act act
+  pub kind : kind_of (event_of job.work s.mark act) ≡ kind_of_act act
   -- the event leaves the worker the act's task
-  pub leaves : (new : State) → Does job s w (event_of s.mark act) new → new.task w ≡ task_left s.tick s.mark act
+  pub leaves : (new : State) → Does job s w (event_of job.work s.mark act) new → new.task w ≡ task_left s.tick s.mark act

@@ -1,6 +1,7 @@
 -- The model's state, as functions of node and worker numbers.
 use Rattle.core_model.specs.Words.{Entry, Progress, Ready, Waiting, CallState, NotCalled, Status, Free, Task, Idle, Act, Nodes}
 use Rattle.seq_objects.specs.Stores.{Store, opening_store}
+use Rattle.seq_objects.specs.Spin.{spin_of}
 use Rattle.batch_history.specs.Operations.{act_of, source_of}
 use Rattle.sp_order.specs.Jobs.{JobValue, job_tree}
 use Rattle.sp_order.specs.Preorder.{nodes_of}
@@ -10,17 +11,23 @@ use Rattle.std.specs.Prelude.{Bool, List, None, Option, [], if◌then◌else◌,
 abbrev pub put : {A : Type 0} → (ℕ → A) → ℕ → A → ℕ → A
 put f n x m = if m == n then x else f m
 
--- A job in the model: its plan, the act of each leaf, the source of each leaf that has one, and the number of workers.
--- The reply of its source is the argument of a leaf's call.
+-- A job in the model: its plan, the act of each leaf, the source of each leaf that has one, what the leaves of work
+-- compute, and the number of workers. The reply of its source is the argument of a leaf's call.
 pub record CoreJob : Type 0 where
   pub plan : Nodes
   pub act : ℕ → Act
   pub source : ℕ → Option ℕ
+  pub work : ℕ → ℕ
   pub workers : ℕ
 
--- the model of a job with leaves, for a number of workers
+-- the model of a job with leaves, for a number of workers, where the leaves of work compute `work`
+abbrev pub core_job_with : (ℕ → ℕ) → JobValue → ℕ → CoreJob
+core_job_with work job workers =
+    record { plan = nodes_of (job_tree job); act = act_of job.acts; source = source_of job; work = work; workers = workers }
+
+-- the same where they spin
 abbrev pub core_job : JobValue → ℕ → CoreJob
-core_job job workers = record { plan = nodes_of (job_tree job); act = act_of job.acts; source = source_of job; workers = workers }
+core_job = core_job_with spin_of
 
 -- the flag owner's progress: the number of workers it has looked at, the workers whose calls it took, those it
 -- answered, and whether it has published

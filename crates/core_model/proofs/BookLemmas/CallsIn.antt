@@ -1,6 +1,6 @@
 -- The leaves of a job that call have numbers below that of its nodes.
 use Rattle.std.proofs.Common.{ℕ, zero, suc, ◌≡◌, ◌≢◌, ◌<◌, None, List, [], ◌∷◌, length, get_or, arith, refl}
-use Rattle.core_model.proofs.Words.{Act, Work, leaves, IsPlanOf, core_job}
+use Rattle.core_model.proofs.Words.{Act, Work, leaves, IsPlanOf, core_job_with}
 use Rattle.sp_order.specs.Jobs.{JobValue, job_tree}
 use Rattle.sp_order.specs.Preorder.{nodes_of}
 use Rattle.core_model.specs.Operations.{op_in, IsCall}
@@ -12,9 +12,9 @@ call_within [] u call = absurd (call refl)
 call_within (act ∷ acts) zero call = omega arith
 call_within (act ∷ acts) (suc u) call = let h = call_within acts u call in omega (arith, h)
 
-pub calls_in : (job : JobValue) (workers : ℕ) → IsPlanOf (nodes_of (job_tree job)) (job_tree job) → length job.acts ≡ leaves (job_tree job)
-    → (u : ℕ) → IsCall (core_job job workers) u → u < (nodes_of (job_tree job)).count
-calls_in job workers stands len u call =
+pub calls_in : (work : ℕ → ℕ) (job : JobValue) (workers : ℕ) → IsPlanOf (nodes_of (job_tree job)) (job_tree job) → length job.acts ≡ leaves (job_tree job)
+    → (u : ℕ) → IsCall (core_job_with work job workers) u → u < (nodes_of (job_tree job)).count
+calls_in work job workers stands len u call =
     let within = call_within job.acts u call in
     let few = leaves_few (job_tree job) in
     omega (arith, within, few, len, stands.count)

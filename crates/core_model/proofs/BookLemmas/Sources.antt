@@ -25,9 +25,9 @@ place_by None w e = cc
 place_by (Some place) w e = (place, refl)
 
 -- the value that is due where a call's entry stands
-due_there : (act : Act) (p : Option Place) (place : Place) → op_in act ≢ None → p ≡ Some place → value_due act p ≡ Some (value_of place.entry.reply)
-due_there (Work steps) p place call at = absurd (call refl)
-due_there (Call op) p place call at = rw at refl
+due_there : (work : ℕ → ℕ) (act : Act) (p : Option Place) (place : Place) → op_in act ≢ None → p ≡ Some place → value_due work act p ≡ Some (value_of place.entry.reply)
+due_there work (Work steps) p place call at = absurd (call refl)
+due_there work (Call op) p place call at = rw at refl
 
 -- the source of a started leaf has replied
 pub source_replied : (job : CoreJob) (s : State) → HasSources job → InductiveParts job s → (w n start leaf source : ℕ) → s.task w ≡ Started n start
@@ -47,7 +47,7 @@ source_replied job s sources h w n start leaf source is kind of =
       ran = ran.3;
       place = place.0;
       stands = place.1;
-      value = h.values m source at.stands valued ∙ due_there (job.act source) (place_of s.book source) place.0 at.calls place.1;
+      value = h.values m source at.stands valued ∙ due_there job.work (job.act source) (place_of s.book source) place.0 at.calls place.1;
     }
 
 -- the entry of a leaf's source stands first, and tells the argument of the leaf's entry

@@ -6,7 +6,6 @@ use Rattle.core_model.proofs.Words.{Work, Call, LeafNode, SeqNode, ParNode, Root
 use Rattle.core_model.specs.Operations.{leaf_of}
 use Rattle.core_model.specs.Choice.{choice_free}
 use Rattle.seq_objects.specs.Objects.{value_of}
-use Rattle.seq_objects.specs.Spin.{spin_of}
 
 module _ (job : CoreJob) (s : CoreState) (w : ℕ) where
   leaf_starts : (n leaf : ℕ) → job.plan.kind n ≡ Some (LeafNode leaf) → choice_free job s w (Run n) ≡ Some (Start n)
@@ -21,7 +20,7 @@ module _ (job : CoreJob) (s : CoreState) (w : ℕ) where
   half_opens : (p l r : ℕ) → job.plan.kind p ≡ Some (ParNode l r) → choice_free job s w (Half p) ≡ Some (OpenParLeft p l r)
   half_opens p l r kind = rw kind refl
 
-  work_is_kept : (n start steps : ℕ) → job.act (leaf_of (job.plan.kind n)) ≡ Work steps → choice_free job s w (Started n start) ≡ Some (Keep n start (spin_of steps))
+  work_is_kept : (n start steps : ℕ) → job.act (leaf_of (job.plan.kind n)) ≡ Work steps → choice_free job s w (Started n start) ≡ Some (Keep n start (job.work steps))
   work_is_kept n start steps act = rw act refl
 
   call_is_posted : (n start : ℕ) (op : Op) → job.act (leaf_of (job.plan.kind n)) ≡ Call op → s.state.call w ≡ NotCalled → choice_free job s w (Started n start) ≡ Some (Post n start)

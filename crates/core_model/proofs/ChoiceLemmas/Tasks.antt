@@ -24,11 +24,11 @@ gives_allows job s w None h = absurd h
 gives_allows job s w (Some event) h = h
 
 -- a worker that is not trapped and has a task chooses the event of its next act
-pub choice_is_next : (job : CoreJob) (s : CoreState) (w : ℕ) (t : Task) → t ≢ Idle → choice_free job s w t ≡ event_if s.state.mark (next_act job t (s.state.call w))
+pub choice_is_next : (job : CoreJob) (s : CoreState) (w : ℕ) (t : Task) → t ≢ Idle → choice_free job s w t ≡ event_if job.work s.state.mark (next_act job t (s.state.call w))
 choice_is_next job s w Idle busy = absurd (busy refl)
 choice_is_next job s w _ busy = refl
 
-acts_give : (job : CoreJob) (s : State) (w : ℕ) (o : Option Next) → Acts job s w o → Gives job s w (event_if s.mark o)
+acts_give : (job : CoreJob) (s : State) (w : ℕ) (o : Option Next) → Acts job s w o → Gives job s w (event_if job.work s.mark o)
 acts_give job s w None acts = absurd acts
 acts_give job s w (Some act) acts = acts.needs
 

@@ -3,7 +3,6 @@ use Rattle.std.specs.Prelude.{ℕ, ◌≡◌, ◌<◌, Bool, true, false, if◌t
 use Rattle.std.specs.List.{AllByRecursion}
 use Rattle.seq_objects.specs.Objects.{value_of}
 use Rattle.seq_objects.specs.Stores.{Store, opening_store}
-use Rattle.seq_objects.specs.Spin.{spin_of}
 use Rattle.core_model.proofs.Words.{Act, Work, Call, LeafNode, Entry, Progress, Waiting, Ready, Taken, Done, Ran, Task, Idle, Run, Half, Started, Kept, Ended, Whole, Handed, Status, Free, Pending, Executing, Served, CallState, NotCalled, Out, Got, CoreJob}
 use Rattle.seq_objects.specs.Pairs.{AreDistinct}
 use Rattle.batch_history.specs.Book.{flat, IsLegal, IsBatch}
@@ -106,6 +105,6 @@ value_at None = None
 value_at (Some place) = Some (value_of place.entry.reply)
 
 -- the value that a leaf is to have, which does this and whose entry stands here
-abbrev pub value_due : Act → Option Place → Option ℕ
-value_due (Work steps) place = Some (spin_of steps)
-value_due (Call op) place = value_at place
+abbrev pub value_due : (ℕ → ℕ) → Act → Option Place → Option ℕ
+value_due work (Work steps) place = Some (work steps)
+value_due work (Call op) place = value_at place

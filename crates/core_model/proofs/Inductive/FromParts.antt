@@ -329,7 +329,7 @@ module _ (job : CoreJob) (s : State) (h : Parts job s) where
   is_kept n Taken (Some w) at held e = kept_by (s.task w) n w refl (kept_tasks.holders.holds w n held) e
   is_kept n (Ran w a d) o at held e = inl (rw at refl)
 
-  value_is : (leaf : ℕ) (act : Act) (value : ℕ) → IsValue s.book leaf act value → Some value ≡ value_due act (place_of s.book leaf)
+  value_is : (leaf : ℕ) (act : Act) (value : ℕ) → IsValue job.work s.book leaf act value → Some value ≡ value_due job.work act (place_of s.book leaf)
   value_is leaf (Work steps) value is = ap Some is
   value_is leaf (Call op) value is =
       let at = (entry_there s.book is.0 h.book.leaves is.1).1 in

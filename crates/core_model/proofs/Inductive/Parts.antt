@@ -21,4 +21,4 @@ pub record InductiveParts (job : CoreJob) (s : State) : Type 0 where
   pub booked : (n leaf : ℕ) → job.plan.kind n ≡ Some (LeafNode leaf) → IsCall job leaf
       → worker_at (place_of s.book leaf) ≡ booked_by (s.node n) (holder n) s.task s.status s.call (is_published s.hold)
   pub values : (n leaf : ℕ) → job.plan.kind n ≡ Some (LeafNode leaf) → valued_by (s.node n) (holder n) s.task ≡ true
-      → s.value n ≡ value_due (job.act leaf) (place_of s.book leaf)
+      → s.value n ≡ value_due job.work (job.act leaf) (place_of s.book leaf)

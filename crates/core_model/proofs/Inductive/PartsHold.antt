@@ -3,7 +3,6 @@ use Rattle.std.proofs.Common.{ℕ, ◌≡◌, ◌≢◌, ◌<◌, ◌⊎◌, Boo
 use Rattle.std.specs.Prelude.{Contains}
 use Rattle.std.proofs.lemmas.List.Elements.{recursion_from_All, All-contains_itself}
 use Rattle.seq_objects.specs.Objects.{value_of}
-use Rattle.seq_objects.specs.Spin.{spin_of}
 use Rattle.core_model.specs.Invariant.Values.{IsKept, IsValue, ValuesInvariant}
 use Rattle.core_model.specs.Invariant.Statuses.{StatusesInvariant}
 use Rattle.core_model.specs.Invariant.Book.{BookInvariant}
@@ -191,19 +190,19 @@ is_valued_by job s h n leaf kind (inr (inr ended)) =
     rw (fits.1, h.tasks.holders.named ended.0 n (ap names ended.3), ended.3) refl
 
 -- the value that is due
-value_is : (book : List (List Entry)) (leaf : ℕ) (a : Act) (p : Option Place) → (op_in a ≢ None → p ≢ None)
+value_is : (work : ℕ → ℕ) (book : List (List Entry)) (leaf : ℕ) (a : Act) (p : Option Place) → (op_in a ≢ None → p ≢ None)
     → ((place : Place) → p ≡ Some place → Contains (flat book) place.entry × (place.entry.leaf ≡ leaf))
-    → (value : ℕ) × (value_due a p ≡ Some value) × IsValue book leaf a value
-value_is book leaf (Work steps) p there found = (spin_of steps, refl, refl)
-value_is book leaf (Call op) None there found = absurd (there (λ e. cc) refl)
-value_is book leaf (Call op) (Some place) there found = (value_of place.entry.reply, refl, (place.entry, (found place refl).0, (found place refl).1, refl))
+    → (value : ℕ) × (value_due work a p ≡ Some value) × IsValue work book leaf a value
+value_is work book leaf (Work steps) p there found = (work steps, refl, refl)
+value_is work book leaf (Call op) None there found = absurd (there (λ e. cc) refl)
+value_is work book leaf (Call op) (Some place) there found = (value_of place.entry.reply, refl, (place.entry, (found place refl).0, (found place refl).1, refl))
 
 -- the values
 pub values_stand : (job : CoreJob) (s : State) → InductiveParts job s → ValuesInvariant job s
 values_stand job s h = record {
   values = λ n leaf kind kept.
       let valued = is_valued_by job s h n leaf kind kept in
-      let is = value_is s.book leaf (job.act leaf) (place_of s.book leaf)
+      let is = value_is job.work s.book leaf (job.act leaf) (place_of s.book leaf)
       (λ call. there_if (place_of s.book leaf) (booked_by (s.node n) (h.holder n) s.task s.status s.call (is_published s.hold)) (h.booked n leaf kind call)
       (valued_is_booked (s.node n) (h.holder n) s.task s.status s.call (is_published s.hold) valued))
       (λ place at. found_in_book (Contains (flat s.book)) s.book leaf place (recursion_from_All (Contains (flat s.book)) (flat s.book) (All-contains_itself (flat s.book))) at) in

@@ -107,10 +107,10 @@ leaves_apart job s hd b h laws there unpublished only workers =
     (each_mapped (λ (e : Entry). e.leaf) (IsTakenCall job s) (λ l. (place_of s.book l ≢ None) → ⊥) (λ e p there'. there' (not_in_book job s hd e h there unpublished p)) b only)))
 
 -- the value that is due stays the same
-still_due : (a : Act) (p q : Option Place) → (op_in a ≢ None → p ≢ None) → value_due a p ≡ value_due a (or_else p q)
-still_due (Work steps) p q h = refl
-still_due (Call op) (Some p) q h = refl
-still_due (Call op) None q h = absurd (h (λ e. cc) refl)
+still_due : (work : ℕ → ℕ) (a : Act) (p q : Option Place) → (op_in a ≢ None → p ≢ None) → value_due work a p ≡ value_due work a (or_else p q)
+still_due work (Work steps) p q h = refl
+still_due work (Call op) (Some p) q h = refl
+still_due work (Call op) None q h = absurd (h (λ e. cc) refl)
 
 -- a leaf that has its value is booked, if it calls
 pub valued_is_booked : (x : Progress) (o : Option ℕ) (task : ℕ → Task) (status : ℕ → Status) (call : ℕ → CallState) (b : Bool) → valued_by x o task ≡ true → booked_by x o task status call b ≢ None
@@ -167,7 +167,7 @@ publish_keeps job s w b laws h needs batch =
           (λ v e. (took_it job s hd v (rows v) e).1)
           (λ y e. batch_node job s hd b h.holder n u y h.tasks fits (laws.one_node n u leaf) e)
           (λ v e took started. batch_each job s hd b h.holder n u v h.tasks fits leaf e took started));
-      values = λ n u leaf k. h.values n u leaf k ∙ rw (place_append s.book b u) (still_due (job.act u) (place_of s.book u) (place_in (length s.book) 0 b u)
+      values = λ n u leaf k. h.values n u leaf k ∙ rw (place_append s.book b u) (still_due job.work (job.act u) (place_of s.book u) (place_in (length s.book) 0 b u)
           (λ call. there_if (place_of s.book u) (booked_by (s.node n) (h.holder n) s.task s.status s.call (is_published s.hold)) (h.booked n u leaf call)
           (valued_is_booked (s.node n) (h.holder n) s.task s.status s.call (is_published s.hold) k)));
     }

@@ -30,11 +30,11 @@ kept_hold workers status call w None other h = tt
 kept_hold workers status call w (Some hd) other h = (grind (arith, nat_tests, h.0), h.1, h.2, h.3, h.4, h.5, h.6, h.7)
 
 -- a leaf that calls has its value from a call that is got
-got : (a : Act) (c : CallState) (v : ℕ) → value_in a c ≡ Some v → op_in a ≢ None → (r : Receipt) × (c ≡ Got r)
-got (Work k) c v e f = absurd (f refl)
-got (Call op) NotCalled v e f = cc
-got (Call op) Out v e f = cc
-got (Call op) (Got r) v e f = (r, refl)
+got : (work : ℕ → ℕ) (a : Act) (c : CallState) (v : ℕ) → value_in work a c ≡ Some v → op_in a ≢ None → (r : Receipt) × (c ≡ Got r)
+got work (Work k) c v e f = absurd (f refl)
+got work (Call op) NotCalled v e f = cc
+got work (Call op) Out v e f = cc
+got work (Call op) (Got r) v e f = (r, refl)
 
 -- which calls are in the book
 kept_booked : (node : ℕ → Progress) (task : ℕ → Task) (status : ℕ → Status) (call : ℕ → CallState) (b : Bool) (holder : ℕ → Option ℕ) (w n t m : ℕ) → HoldersFit task holder → task w ≡ Started n t
@@ -44,13 +44,13 @@ kept_booked node task status call b holder w n t m h mine called = grind (arith,
 
 -- the value that is kept is the one that is due
 due_at : (job : CoreJob) (book : List (List Entry)) (n t v : ℕ) (a : Act) (st : Status) (c : CallState) (b : Bool) → st ≡ Free → StatusFits job book (Started n t) st c b
-    → value_in a c ≡ Some v → Some v ≡ value_due a (place_of book (leaf_of (job.plan.kind n)))
+    → value_in job.work a c ≡ Some v → Some v ≡ value_due job.work a (place_of book (leaf_of (job.plan.kind n)))
 due_at job book n t v (Work k) st c b free h e = sym e
 due_at job book n t v (Call op) st c b free h e = grind arith
 
 -- and so by the number of the leaf
 due_for : (job : CoreJob) (book : List (List Entry)) (n u v : ℕ) → job.plan.kind n ≡ Some (LeafNode u)
-    → Some v ≡ value_due (job.act (leaf_of (job.plan.kind n))) (place_of book (leaf_of (job.plan.kind n))) → Some v ≡ value_due (job.act u) (place_of book u)
+    → Some v ≡ value_due job.work (job.act (leaf_of (job.plan.kind n))) (place_of book (leaf_of (job.plan.kind n))) → Some v ≡ value_due job.work (job.act u) (place_of book u)
 due_for job book n u v leaf e = rw leaf at e
 
 -- which other leaves have their values
@@ -77,7 +77,7 @@ keep_keeps job s w n t v laws below h needs =
       hold = kept_hold job.workers s.status s.call w s.hold (not_out job s.book (s.task w) (s.status w) (s.call w) (is_taken_by s.hold w) needs.0 (h.statuses w)) h.hold;
       book = same_book job s (stamps s.node s.task h.holder) (stamps s.node (put s.task w (Kept n t)) h.holder) same h.book;
       booked = λ m u leaf call. h.booked m u leaf call ∙ sym (kept_booked s.node s.task s.status s.call (is_published s.hold) h.holder w n t m h.tasks.holders mine
-          (λ e. got (job.act (leaf_of (job.plan.kind n))) (s.call w) v needs.2 (rw (← e, leaf) call)));
+          (λ e. got job.work (job.act (leaf_of (job.plan.kind n))) (s.call w) v needs.2 (rw (← e, leaf) call)));
       values = λ m u leaf k. elim (cases_eq m n) [
         | inl q ↦ put_at s.value n m (Some v) q ∙ due_for job s.book n u v (rw q at leaf) (due_at job s.book n t v (job.act (leaf_of (job.plan.kind n))) (s.status w) (s.call w) (is_taken_by s.hold w) needs.0 (rw mine at (h.statuses w)) needs.2)
         | inr q ↦ put_other s.value n m (Some v) q ∙ h.values m u leaf (sym (kept_valued s.node s.task h.holder w n t m h.tasks.holders mine q) ∙ k)

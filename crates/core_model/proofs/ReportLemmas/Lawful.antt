@@ -3,7 +3,7 @@ use Rattle.std.proofs.Common.{ℕ, ◌≡◌, ◌<◌, Option, Some, None, List,
 use Rattle.std.specs.Prelude.{slice_get, IsSomeAnd}
 use Rattle.std.proofs.lemmas.Option.{get_or_from_slice_get, slice_get_within}
 use Rattle.seq_objects.specs.Objects.{value_of}
-use Rattle.core_model.proofs.Words.{Act, Work, Call, Tree, leaves, IsBySeries, Entry, CoreJob, State, core_job}
+use Rattle.core_model.proofs.Words.{Act, Work, Call, Tree, leaves, IsBySeries, Entry, CoreJob, State, core_job_with}
 use Rattle.sp_order.specs.Precedence.{IsBefore}
 use Rattle.sp_order.specs.Preorder.{nodes_of}
 use Rattle.sp_order.specs.Jobs.{JobValue}
@@ -11,7 +11,7 @@ use Rattle.batch_history.specs.declared.row.Row.{Row}
 use Rattle.batch_history.specs.declared.report.Report.{Report}
 use Rattle.seq_objects.specs.Pairs.{IsEnumerationOf}
 use Rattle.batch_history.specs.Book.{flat}
-use Rattle.batch_history.specs.Lawful.{HasRows, KeepsOrder, HasCalls, KeepsTicks, HasValues, Lawful}
+use Rattle.batch_history.specs.Lawful.{HasRows, KeepsOrder, HasCalls, KeepsTicks, HasValuesWith, LawfulWith}
 use Rattle.batch_history.specs.Operations.{act_of, op_in, op_of}
 use Rattle.sp_order.specs.Sources.{IsCallLeaf}
 use Rattle.batch_history.proofs.ActLemmas.{called_as}
@@ -31,16 +31,16 @@ in_some P (Some x) h = (x, refl, h)
 abbrev pub job_with : Tree → JobValue → JobValue
 job_with tree job = record job { shape = Some tree }
 
-module _ (tree : Tree) (given : JobValue) (workers : ℕ) (s : State) (report : Report) (fits : length given.acts ≡ leaves tree)
+module _ (work : ℕ → ℕ) (tree : Tree) (given : JobValue) (workers : ℕ) (s : State) (report : Report) (fits : length given.acts ≡ leaves tree)
     (series : (u v : ℕ) → u < leaves tree → v < leaves tree → IsBefore (Some tree) u v → IsBySeries (nodes_of tree) ((nodes_of tree).node_of u) ((nodes_of tree).node_of v))
-    (h : IsEnded (core_job (job_with tree given) workers) (leaves tree) s) (r : IsReportOf (core_job (job_with tree given) workers) (leaves tree) s report) where
+    (h : IsEnded (core_job_with work (job_with tree given) workers) (leaves tree) s) (r : IsReportOf (core_job_with work (job_with tree given) workers) (leaves tree) s report) where
   -- the job, as reports know it
   abbrev value : JobValue
   value = job_with tree given
 
   -- and as the core does
   abbrev job : CoreJob
-  job = core_job (job_with tree given) workers
+  job = core_job_with work (job_with tree given) workers
 
   -- the row at the place of a leaf
   row_of : (leaf : ℕ) (row : Row) → slice_get report.rows leaf ≡ Some row → IsRowAt job (leaves tree) s leaf row
@@ -104,7 +104,7 @@ module _ (tree : Tree) (given : JobValue) (workers : ℕ) (s : State) (report : 
       (row_of e.leaf row is) (row_of f.leaf row' is') less
 
   -- the values
-  has_values : HasValues value report
+  has_values : HasValuesWith work value report
   has_values = record {
     work = λ leaf steps act row is.
         work_valued job (leaves tree) s h leaf steps row (does leaf (Work steps) act)
@@ -116,7 +116,7 @@ module _ (tree : Tree) (given : JobValue) (workers : ℕ) (s : State) (report : 
   }
 
   -- all parts
-  pub report_lawful : Lawful value workers report
+  pub report_lawful : LawfulWith work value workers report
   report_lawful = record {
     rows = has_rows;
     order = keeps_order;

@@ -4,7 +4,6 @@ use Rattle.std.specs.Prelude.{slice_get}
 use Rattle.std.specs.List.{AllByRecursion}
 use Rattle.std.proofs.lemmas.List.Elements.{recursion_from_All, All-contains_itself}
 use Rattle.seq_objects.specs.Objects.{value_of}
-use Rattle.seq_objects.specs.Spin.{spin_of}
 use Rattle.core_model.proofs.Words.{Act, Work, Call, Op, Entry, Ran, CoreJob, State, is_done}
 use Rattle.batch_history.specs.Book.{flat}
 use Rattle.batch_history.specs.declared.row.Row.{Row}
@@ -70,15 +69,15 @@ module _ (job : CoreJob) (total : ℕ) (s : State) (h : IsEnded job total s) whe
       omega (arith, early.2, batch_is, placed.in_batch, placed'.in_batch)
 
   -- the value of the row of a leaf is as its act says
-  value_at : (leaf : ℕ) (act : Act) (row : Row) → job.act leaf ≡ act → IsRowAt job total s leaf row → IsValue s.book leaf act row.value
+  value_at : (leaf : ℕ) (act : Act) (row : Row) → job.act leaf ≡ act → IsRowAt job total s leaf row → IsValue job.work s.book leaf act row.value
   value_at leaf act row is at =
       let done : is_done (s.node (job.plan.node_of leaf)) ≡ true = rw at.ran refl in
       let value = h.parts.values.values (job.plan.node_of leaf) leaf (h.kind leaf at.low) (inl done) in
       let same = same_Some value.0 row.value (sym value.1 ∙ at.value) in
-      subst (IsValue s.book leaf act) same (rw is at value.2)
+      subst (IsValue job.work s.book leaf act) same (rw is at value.2)
 
   -- the value of a leaf that works
-  pub work_valued : (leaf steps : ℕ) (row : Row) → job.act leaf ≡ Work steps → IsRowAt job total s leaf row → row.value ≡ spin_of steps
+  pub work_valued : (leaf steps : ℕ) (row : Row) → job.act leaf ≡ Work steps → IsRowAt job total s leaf row → row.value ≡ job.work steps
   work_valued leaf steps row is at = value_at leaf (Work steps) row is at
 
   -- and of one that calls

@@ -25,7 +25,7 @@ ghost use Rattle.core_model.specs.Invariant.Statuses.{is_taken_by};
 ghost use Rattle.core_model.specs.LeafSources.{HasReplied, HasSources};
 ghost use Rattle.core_model.specs.Measure.{call_count};
 ghost use Rattle.core_model.specs.Operations.{IsCall, Place, op_of, or_else, place_in, place_of, receipt_for};
-ghost use Rattle.core_model.specs.State.{CoreJob, State, core_job};
+ghost use Rattle.core_model.specs.State.{CoreJob, State, core_job_with};
 ghost use Rattle.core_model.specs.Waits.{task_place};
 
 use sp_order::laws::{
@@ -116,7 +116,8 @@ pub fn sources_come_first()
 
 /// In the model of a job each source of a leaf is a calling leaf, and by a series its node is before the leaf's.
 pub fn job_has_its_sources()
-    ensures { (job : JobValue) (workers : ℕ) → IsJob job → HasSources (core_job job workers) }
+    ensures { (work : ℕ → ℕ) (job : JobValue) (workers : ℕ) → IsJob job
+        → HasSources (core_job_with work job workers) }
 {
     plan_stands_for_tree();
     leaf_has_one_node();
@@ -134,11 +135,11 @@ pub fn calls_have_room()
         → Parts job state
         → AreDistinct workers → AllByRecursion (IsUnserved state) workers
         → length (flat state.book) + length workers ≤ call_count job }
-    ensures tree { (job : JobValue) (count : ℕ) (state : State) (workers : List ℕ)
+    ensures tree { (work : ℕ → ℕ) (job : JobValue) (count : ℕ) (state : State) (workers : List ℕ)
         → length job.acts ≡ leaves (job_tree job)
-        → Parts (core_job job count) state
+        → Parts (core_job_with work job count) state
         → AreDistinct workers → AllByRecursion (IsUnserved state) workers
-        → (length (flat state.book) + length workers ≤ call_count (core_job job count))
+        → (length (flat state.book) + length workers ≤ call_count (core_job_with work job count))
         × (length (flat state.book) + length workers ≤ leaves (job_tree job)) }
 {
     plan_stands_for_tree();

@@ -12,7 +12,7 @@ ghost use Rattle.sp_order.specs.PlanOf.{IsPlanOf};
 ghost use Rattle.core_model.specs.declared.progress.Progress.TheVariants.{Ran};
 ghost use Rattle.core_model.specs.declared.task.Task.TheVariants.{Whole};
 ghost use Rattle.core_model.specs.declared.event.Event.{Event};
-ghost use Rattle.core_model.specs.State.{CoreJob, State, CoreState, opening_state, opening_core, core_job};
+ghost use Rattle.core_model.specs.State.{CoreJob, State, CoreState, opening_state, opening_core, core_job_with};
 ghost use Rattle.core_model.specs.Events.{EventKind, Happens, IsEvent};
 ghost use Rattle.core_model.specs.Invariant.Ticks.{HasStart};
 ghost use Rattle.core_model.specs.Invariant.{Parts, Invariant};
@@ -50,9 +50,9 @@ pub fn event_keeps_invariant()
 
 /// Each state that events reach from the opening state has the invariant.
 pub fn reached_has_invariant()
-    ensures { (job : JobValue) (workers : ℕ) (state : CoreState) → 0 < workers
-        → IsReached (core_job job workers) state
-        → Invariant (core_job job workers) state }
+    ensures { (work : ℕ → ℕ) (job : JobValue) (workers : ℕ) (state : CoreState) → 0 < workers
+        → IsReached (core_job_with work job workers) state
+        → Invariant (core_job_with work job workers) state }
 {
     plan_stands_for_tree();
     plan_has_sides();

@@ -2,16 +2,16 @@
 ghost use Rattle.std.specs.Prelude.{◌≡◌, ◌≢◌, ℕ, ◌<◌, true, None, Some, List, length};
 ghost use Rattle.sp_order.specs.Precedence.{Tree, leaves};
 ghost use Rattle.sp_order.specs.PlanOf.{IsPlanOf};
-ghost use Rattle.batch_history.specs.Lawful.{Lawful};
+ghost use Rattle.batch_history.specs.Lawful.{LawfulWith};
 ghost use Rattle.batch_history.specs.declared.report.Report.{Report};
 ghost use Rattle.core_model.specs.declared.task.Task.TheVariants.{Idle};
 ghost use Rattle.core_model.specs.declared.status.Status.TheVariants.{Free};
-ghost use Rattle.core_model.specs.State.{CoreJob, CoreState, State, core_job, opening_core};
+ghost use Rattle.core_model.specs.State.{CoreJob, CoreState, State, core_job_with, opening_core};
 ghost use Rattle.core_model.specs.Runs.{IsReached};
 ghost use Rattle.sp_order.specs.Jobs.{JobValue, job_tree};
 ghost use Rattle.core_model.specs.Tasks.{is_done};
 ghost use Rattle.core_model.specs.Invariant.{Parts};
-ghost use Rattle.core_model.specs.Reports.{HasRun, IsReportOf, IsDrivenFrom, IsDrivenReport, IsRunFrom, IsRunReport};
+ghost use Rattle.core_model.specs.Reports.{HasRun, IsReportOf, IsDrivenFrom, IsDrivenReportWith, IsRunFrom, IsRunReportWith};
 
 use sp_order::laws::{
     before_is_by_series, leaf_has_one_node, plan_has_sides, plan_stands_for_tree,
@@ -44,13 +44,13 @@ pub fn done_leaves_have_run()
 
 /// The report of a state whose root is done is lawful.
 pub fn done_report_is_lawful()
-    ensures { (job : JobValue) (workers : ℕ) (state : State) (report : Report)
+    ensures { (work : ℕ → ℕ) (job : JobValue) (workers : ℕ) (state : State) (report : Report)
         → job.shape ≡ Some (job_tree job)
         → length job.acts ≡ leaves (job_tree job)
-        → Parts (core_job job workers) state
+        → Parts (core_job_with work job workers) state
         → is_done (state.node 0) ≡ true
-        → IsReportOf (core_job job workers) (leaves (job_tree job)) state report
-        → Lawful job workers report }
+        → IsReportOf (core_job_with work job workers) (leaves (job_tree job)) state report
+        → LawfulWith work job workers report }
 {
     plan_stands_for_tree();
     plan_has_sides();
@@ -71,9 +71,9 @@ pub fn driven_report_is_of_a_run()
     ensures from { (job : CoreJob) (leaf_total : ℕ) (first : CoreState) (schedule : List ℕ) (report : Report)
         → IsDrivenFrom job leaf_total first schedule report
         → IsRunFrom job leaf_total first report }
-    ensures opening { (job : JobValue) (workers : ℕ) (schedule : List ℕ) (report : Report)
-        → IsDrivenReport job workers schedule report
-        → IsRunReport job workers report }
+    ensures opening { (work : ℕ → ℕ) (job : JobValue) (workers : ℕ) (schedule : List ℕ) (report : Report)
+        → IsDrivenReportWith work job workers schedule report
+        → IsRunReportWith work job workers report }
 {}
 
 /// A run from a reached state extends to a run from the opening state, with the same report.

@@ -5,7 +5,7 @@ ghost use Rattle.sp_order.specs.Plans.{IsPlan};
 ghost use Rattle.core_model.specs.declared.event.Event.{Event};
 ghost use Rattle.core_model.specs.declared.status.Status.TheVariants.{Pending, Served};
 ghost use Rattle.core_model.specs.declared.status.Receipt.{Receipt};
-ghost use Rattle.core_model.specs.State.{CoreJob, State, CoreState, core_job};
+ghost use Rattle.core_model.specs.State.{CoreJob, State, CoreState, core_job_with};
 ghost use Rattle.core_model.specs.Events.{Happens};
 ghost use Rattle.core_model.specs.Invariant.{Parts};
 ghost use Rattle.core_model.specs.Runs.{IsReached};
@@ -37,11 +37,11 @@ pub fn trapped_waits_since_then()
         → Parts job first
         → StaysTrapped job worker first last
         → WaitsSince job last worker (length first.book) }
-    ensures reached { (job : JobValue) (workers worker : ℕ) (first : CoreState) (last : State)
+    ensures reached { (work : ℕ → ℕ) (job : JobValue) (workers worker : ℕ) (first : CoreState) (last : State)
         → 0 < workers
-        → IsReached (core_job job workers) first
-        → StaysTrapped (core_job job workers) worker first.state last
-        → WaitsSince (core_job job workers) last worker (length first.state.book) }
+        → IsReached (core_job_with work job workers) first
+        → StaysTrapped (core_job_with work job workers) worker first.state last
+        → WaitsSince (core_job_with work job workers) last worker (length first.state.book) }
 {
     plan_stands_for_tree();
     plan_has_sides();
@@ -50,10 +50,10 @@ pub fn trapped_waits_since_then()
 /// If a worker stays trapped until its call is served, the receipt's batch was there at the beginning or is one of the
 /// next two.
 pub fn two_batches_at_most()
-    ensures { (job : JobValue) (workers worker : ℕ) (first : CoreState) (last : State) (receipt : Receipt)
+    ensures { (work : ℕ → ℕ) (job : JobValue) (workers worker : ℕ) (first : CoreState) (last : State) (receipt : Receipt)
         → 0 < workers
-        → IsReached (core_job job workers) first
-        → StaysTrapped (core_job job workers) worker first.state last
+        → IsReached (core_job_with work job workers) first
+        → StaysTrapped (core_job_with work job workers) worker first.state last
         → last.status worker ≡ Served receipt
         → receipt.batch ≤ length first.state.book + 1 }
 {
@@ -63,11 +63,11 @@ pub fn two_batches_at_most()
 
 /// If the call is pending at the beginning, it is served in one of the next two batches.
 pub fn pending_call_is_in_next_two()
-    ensures { (job : JobValue) (workers worker : ℕ) (first : CoreState) (last : State) (receipt : Receipt)
+    ensures { (work : ℕ → ℕ) (job : JobValue) (workers worker : ℕ) (first : CoreState) (last : State) (receipt : Receipt)
         → 0 < workers
-        → IsReached (core_job job workers) first
+        → IsReached (core_job_with work job workers) first
         → first.state.status worker ≡ Pending
-        → StaysTrapped (core_job job workers) worker first.state last
+        → StaysTrapped (core_job_with work job workers) worker first.state last
         → last.status worker ≡ Served receipt
         → (receipt.batch ≡ length first.state.book) ⊎ (receipt.batch ≡ length first.state.book + 1) }
 {

@@ -2,7 +2,7 @@ use Rattle.std.proofs.Common.{refl}
 use Rattle.sp_order.specs.Precedence.{leaves}
 use Rattle.sp_order.specs.Jobs.{job_tree}
 use Rattle.sp_order.specs.Preorder.{nodes_of}
-use Rattle.core_model.specs.State.{core_job}
+use Rattle.core_model.specs.State.{core_job_with}
 use Rattle.core_model.proofs.Inductive.FromParts.{parts_carried}
 use Rattle.core_model.proofs.BookLemmas.CallsIn.{call_within}
 use Rattle.core_model.proofs.BookLemmas.Room.{few_batches}
@@ -16,15 +16,15 @@ pub returns-clause-plan : goal.returns-clause-plan
 returns-clause-plan c job state workers laws there parts distinct unserved = among_calls job state laws parts (parts_carried job state parts) there workers distinct unserved
 
 pub returns-clause-tree : goal.returns-clause-tree
-returns-clause-tree c job count state workers all parts distinct unserved =
+returns-clause-tree c work job count state workers all parts distinct unserved =
     let tree = job_tree job in
     let stands = c.plan_stands_for_tree.ensures tree in
     let laws = c.plan_has_sides.ensures (nodes_of tree) tree stands in
-    let h = parts_carried (core_job job count) state parts in (
-      among_calls (core_job job count) state laws parts h
+    let h = parts_carried (core_job_with work job count) state parts in (
+      among_calls (core_job_with work job count) state laws parts h
           (λ leaf calls. (
             (nodes_of tree).node_of leaf,
             (c.leaf_has_one_node.ensures (nodes_of tree) tree stands leaf ((nodes_of tree).node_of leaf) (rw (← all) (call_within job.acts leaf calls))).1 refl,
           )) workers distinct unserved,
-      among_leaves (core_job job count) state laws parts h (leaves tree) (λ leaf calls. rw (← all) (call_within job.acts leaf calls)) workers distinct unserved,
+      among_leaves (core_job_with work job count) state laws parts h (leaves tree) (λ leaf calls. rw (← all) (call_within job.acts leaf calls)) workers distinct unserved,
     )

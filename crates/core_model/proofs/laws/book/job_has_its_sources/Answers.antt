@@ -6,7 +6,7 @@ use Rattle.sp_order.specs.PlanOf.{IsPlanOf}
 use Rattle.sp_order.specs.Precedence.{Tree, IsBefore, leaf_count, leaves}
 use Rattle.sp_order.specs.Preorder.{nodes_of}
 use Rattle.sp_order.specs.Sources.{IsSource}
-use Rattle.core_model.proofs.Words.{Work, Call, LeafNode, IsBySeries, core_job}
+use Rattle.core_model.proofs.Words.{Work, Call, LeafNode, IsBySeries, core_job_with}
 use Rattle.core_model.specs.LeafSources.{IsSourceAt}
 use Rattle.core_model.specs.Operations.{op_in}
 use Rattle.core_model.proofs.laws.book.job_has_its_sources.Goals as goal
@@ -25,11 +25,11 @@ record Planned (tree : Tree) : Type 0 where
 abbrev job_with : Option Tree → JobValue → JobValue
 job_with shape job = record job { shape = shape }
 
-at_source : ((tree : Tree) → Planned tree) → (shape : Option Tree) (job : JobValue) (workers n leaf source : ℕ)
-    → leaf_count shape ≡ length job.acts → IsSource shape job.acts leaf source → (core_job (job_with shape job) workers).plan.kind n ≡ Some (LeafNode leaf)
-    → IsSourceAt (core_job (job_with shape job) workers) n source
-at_source planned None job workers n leaf source fits is kind = absurd is.before
-at_source planned (Some tree) job workers n leaf source fits is kind =
+at_source : (work : ℕ → ℕ) → ((tree : Tree) → Planned tree) → (shape : Option Tree) (job : JobValue) (workers n leaf source : ℕ)
+    → leaf_count shape ≡ length job.acts → IsSource shape job.acts leaf source → (core_job_with work (job_with shape job) workers).plan.kind n ≡ Some (LeafNode leaf)
+    → IsSourceAt (core_job_with work (job_with shape job) workers) n source
+at_source work planned None job workers n leaf source fits is kind = absurd is.before
+at_source work planned (Some tree) job workers n leaf source fits is kind =
     let plan = planned tree in
     let low : leaf < leaves tree = rw fits (slice_get_within job.acts leaf (Call is.op) is.call) in
     let low' : source < leaves tree = rw fits (slice_get_within job.acts source (Call is.calls.0) is.calls.1) in
@@ -41,8 +41,8 @@ at_source planned (Some tree) job workers n leaf source fits is kind =
     }
 
 pub returns : goal.returns
-returns c job workers is n leaf source kind of =
-    at_source
+returns c work job workers is n leaf source kind of =
+    at_source work
     (λ tree. let stands : IsPlanOf (nodes_of tree) tree = c.plan_stands_for_tree.ensures tree in record {
       node = λ leaf n low. c.leaf_has_one_node.ensures (nodes_of tree) tree stands leaf n low;
       series = λ u v low low' before. (c.before_is_by_series.ensures (nodes_of tree) tree stands u v low low').0 before;

@@ -5,4 +5,4 @@ pub returns-clause-from : goal.returns-clause-from
 returns-clause-from c job leaf_total first schedule report driven = driven_from job leaf_total first schedule report driven
 
 pub returns-clause-opening : goal.returns-clause-opening
-returns-clause-opening c job workers schedule report driven = driven_shape job.shape job workers schedule report driven
+returns-clause-opening c work job workers schedule report driven = driven_shape work job.shape job workers schedule report driven

@@ -63,17 +63,21 @@ act_of_whole plan (OpenSecond p) n = act_of_second (plan.kind p) p
 act_of_whole plan (FinishParent p) n = act_of_parent (plan.kind p) p
 act_of_whole plan (Arrive p) n = act_of_arrive (plan.kind p) p n
 
--- the next act of a worker with this task and this call state
+-- the next act of a worker with this task and this call state, by the plan and the acts of the leaves
+abbrev pub next_of : Nodes → (ℕ → Act) → Task → CallState → Option Next
+next_of plan act Idle call = None
+next_of plan act (Run n) call = act_of_run (plan.kind n) n
+next_of plan act (Half p) call = act_of_half (plan.kind p) p
+next_of plan act (Started n start) call =
+    act_of_started (act (leaf_of (plan.kind n))) call n start (leaf_of (plan.kind n))
+next_of plan act (Kept n start) call = Some (acts.End n start)
+next_of plan act (Ended n start end) call = Some (acts.Finish n (FinishLeaf n start end))
+next_of plan act (Whole n) call = act_of_whole plan (plan.after n) n
+next_of plan act (Handed p) call = act_of_handed (plan.kind p) p
+
+-- the same of a job
 abbrev pub next_act : CoreJob → Task → CallState → Option Next
-next_act job Idle call = None
-next_act job (Run n) call = act_of_run (job.plan.kind n) n
-next_act job (Half p) call = act_of_half (job.plan.kind p) p
-next_act job (Started n start) call =
-    act_of_started (job.act (leaf_of (job.plan.kind n))) call n start (leaf_of (job.plan.kind n))
-next_act job (Kept n start) call = Some (acts.End n start)
-next_act job (Ended n start end) call = Some (acts.Finish n (FinishLeaf n start end))
-next_act job (Whole n) call = act_of_whole job.plan (job.plan.after n) n
-next_act job (Handed p) call = act_of_handed (job.plan.kind p) p
+next_act job task call = next_of job.plan job.act task call
 
 -- the event that the act is, where a leaf of work computes `work`, from the number of sides that have arrived at each
 -- parallel block

@@ -1,9 +1,9 @@
 pub mod Starts
 pub mod Sides
 pub mod NextActs
-pub mod JobSteps
+pub mod NodeSteps
 pub mod LookSteps
-pub mod GateSteps
+pub mod CallSteps
 pub mod TakeOk
 pub mod ToldOps
 pub mod PublishStep

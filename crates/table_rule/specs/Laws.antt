@@ -2,6 +2,7 @@
 -- job.
 use Rattle.std.specs.Prelude.{ℕ, ◌≡◌, ◌<◌, ◌≤◌, ◌+◌, ◌*◌, ◌^◌, List, [], ◌∷◌, ◌++◌, length, true, false, None, Some}
 use Rattle.std.specs.List.{AllByRecursion}
+use Rattle.limits.specs.declared.TheConstants.{MOST_LEAVES, MOST_WORKERS}
 use Rattle.seq_objects.specs.Pairs.{AreDistinct}
 use Rattle.sp_order.specs.Jobs.{job_tree}
 use Rattle.sp_order.specs.Precedence.{leaves}
@@ -21,14 +22,14 @@ use Rattle.table_rule.specs.CoreWords.{Event, Publish, Receipt, Served, Whole}
 use Rattle.core_model.specs.Settings.{job_of}
 use Rattle.core_model.specs.declared.setting.Setting.{Setting}
 
--- what every setting of a table has: bounded nodes, one act for each leaf, at most 20000 acts, sources that are before
--- their leaves, and at most 32 workers
+-- what every setting of a table has: bounded nodes, one act for each leaf, at most `MOST_LEAVES` of them, sources that
+-- are before their leaves, and at most `MOST_WORKERS` workers
 pub record IsSound (key : Setting) : Type 0 where
-  pub few : (job_of key).plan.count < 40000
+  pub few : (job_of key).plan.count < 2 * MOST_LEAVES
   pub leaves : length key.job.acts ≡ leaves (job_tree key.job)
-  pub short : length key.job.acts ≤ 20000
+  pub short : length key.job.acts ≤ MOST_LEAVES
   pub sources : HasSources (job_of key)
-  pub workers : key.workers ≤ 32
+  pub workers : key.workers ≤ MOST_WORKERS
 
 -- The laws of the core for one job, a field each. They hold of the job of every sound setting (`laws_hold`).
 pub record Laws (job : CoreJob) : Type 0 where
@@ -37,7 +38,7 @@ pub record Laws (job : CoreJob) : Type 0 where
   pub waits : (old new : State) (worker : ℕ) (event : Event) (waiter since : ℕ) → Parts job old → Happens job old worker event new → IsTrapped new waiter → WaitsSince job old waiter since → WaitsSince job new waiter since
   pub now : (s : State) (waiter : ℕ) → Parts job s → IsTrapped s waiter → WaitsSince job s waiter (length s.book)
   pub ticks : (s : State) → Parts job s → s.tick ≤ 2 * job.plan.count
-  pub few : job.plan.count < 40000
+  pub few : job.plan.count < 2 * MOST_LEAVES
   pub second : (n p : ℕ) → job.plan.after n ≡ OpenSecond p → (r : ℕ) × (job.plan.kind p ≡ Some (SeqNode n r))
   pub parent : (n p : ℕ) → job.plan.after n ≡ FinishParent p → (l : ℕ) × (job.plan.kind p ≡ Some (SeqNode l n))
   pub arrive : (n p : ℕ) → job.plan.after n ≡ Arrive p → (l : ℕ) × (r : ℕ) × (job.plan.kind p ≡ Some (ParNode l r)) × IsSide job.plan p n

@@ -4,6 +4,7 @@ use Rattle.seq_objects.specs.declared.call.Call.{Call}
 use Rattle.core_model.specs.Words.{Entry}
 use Rattle.table_rule.specs.CoreWords.{Event, Receipt, Task, Idle, Run, Kept, NotCalled, Out, Got}
 use Rattle.core_model.specs.declared.event.Event.TheVariants as made
+use Rattle.table_rule.specs.declared.status.TheConstants.{PENDING}
 use Rattle.table_rule.specs.declared.slot.OpRecord.{OpRecord}
 use Rattle.table_rule.specs.declared.view.HoldView.{HoldView}
 use Rattle.table_rule.specs.declared.view.PassView.{PassView}
@@ -23,7 +24,7 @@ new_hold book = record { looks = 0; found = []; taken = []; answered = []; owed 
 abbrev pub after_take : Call → HoldView → HoldView
 after_take call h = record h {
   looks = h.looks + 1;
-  found = h.found ++ 1 ∷ [];
+  found = h.found ++ PENDING ∷ [];
   taken = h.taken ++ call ∷ [];
   owed = h.owed ++ call.worker ∷ [];
 }

@@ -8,6 +8,8 @@ use Rattle.table_rule.specs.CoreWords.{Event, Receipt, Task, Idle, Started, Ende
 use Rattle.core_model.specs.declared.next.Next.TheVariants as acts
 use Rattle.core_model.specs.Events.{task_after}
 use Rattle.core_model.specs.Operations.{op_of, place_of}
+use Rattle.table_rule.specs.declared.progress.TheConstants.{READY, DONE, CODES}
+use Rattle.table_rule.specs.declared.status.TheConstants.{PENDING, SERVED}
 use Rattle.table_rule.specs.declared.slot.OpRecord.{OpRecord}
 use Rattle.table_rule.specs.declared.slot.Slot.{Slot}
 use Rattle.table_rule.specs.declared.slot.Slot.TheVariants as Slots
@@ -20,7 +22,7 @@ use Rattle.table_rule.specs.Batches.{IsPublishDue}
 use Rattle.core_model.specs.Entries.{StandsAt}
 use Rattle.table_rule.specs.Shows.{record_in, entry_of, reserved, IsPrefix}
 use Rattle.table_rule.specs.Moments.{IsMomentOf, IsMissAt}
-use Rattle.table_rule.specs.Tasks.{IsNext, job_seen}
+use Rattle.table_rule.specs.Tasks.{IsNext, job_seen, most_ticks}
 use Rattle.table_rule.specs.Passes.{call_by, claiming, refusing, with_task, opening, keeping, telling, finding_stop, finding_none, winning, refusing_win, taking, skipping, publishing, answering, releasing, leaving, refusing_leave}
 use Rattle.table_rule.specs.Views.{with_step, with_miss, with_post, with_since, with_stop, seeing_done, seeing_undone, enrolling}
 
@@ -36,10 +38,10 @@ abbrev pub missed : (PassView → PassView) → Play
 missed f st m r n =
     (miss : Miss) × IsMissAt (job_seen m.0) m.0.room m.0 st.word miss × (miss.found ≡ r) × (n ≡ (with_miss miss f m.0, m.1))
 
--- the claim succeeds exactly if the node's word was 1 (ready)
+-- the claim succeeds exactly if the node's word was that of a ready node
 abbrev pub claimed : Play
 claimed st m r n =
-    (node : ℕ) × (st.word ≡ node_at m.0.workers node) × (r ≡ 1 → n ≡ (with_step (claiming node) m.0, m.1)) × (r ≢ 1 → missed (refusing node) st m r n)
+    (node : ℕ) × (st.word ≡ node_at m.0.workers node) × (r ≡ READY → n ≡ (with_step (claiming node) m.0, m.1)) × (r ≢ READY → missed (refusing node) st m r n)
 
 -- a claim past the last node is refused; the step's first operand is 4 more than the number claimed
 abbrev pub strayed : Play
@@ -48,7 +50,7 @@ strayed st m r n = (node : ℕ) × (st.first ≡ 4 + node) × missed (refusing n
 -- the number found is the tick drawn, which starts or ends the task's leaf, whichever is its next act
 abbrev pub drawn : Play
 drawn st m r n =
-    (r < 80000)
+    (r < most_ticks)
     × ((node leaf : ℕ) → IsNext m.0 (acts.Start node leaf) → n ≡ (with_step (with_task (Start node) (Started node r)) m.0, m.1))
     × ((node start : ℕ) → IsNext m.0 (acts.End node start) → n ≡ (with_step (with_task (End node start) (Ended node start r)) m.0, m.1))
 
@@ -74,11 +76,11 @@ arrived st m r n =
     → (r ≡ 0 → n ≡ (with_step (with_task (ArriveFirst node left right side) Idle) m.0, m.1))
     × (r ≢ 0 → n ≡ (with_step (with_task (ArriveSecond node left right side) (Handed node)) m.0, m.1))
 
--- the root is seen done exactly if the two lowest bits of its word were 3
+-- the root is seen done exactly if its word has the code of a done node
 abbrev pub looked_at_root : Play
 looked_at_root st m r n =
-    (r % 4 ≡ 3 → n ≡ (seeing_done m.0, m.1))
-    × (r % 4 ≢ 3 → (miss : Miss) × IsMissAt (job_seen m.0) m.0.room m.0 st.word miss × (miss.found ≡ r) × (n ≡ (seeing_undone miss m.0, m.1)))
+    (r % CODES ≡ DONE → n ≡ (seeing_done m.0, m.1))
+    × (r % CODES ≢ DONE → (miss : Miss) × IsMissAt (job_seen m.0) m.0.room m.0 st.word miss × (miss.found ≡ r) × (n ≡ (seeing_undone miss m.0, m.1)))
     × (st.word ≡ node_at m.0.workers 0)
 
 -- the number of published batches is told
@@ -127,14 +129,14 @@ pub record IsNewCall (room : ℕ) (h : HoldView) (call : OpRecord) : Type 0 wher
   pub apart : (x : ℕ) (other : OpRecord) → record_in h.taken x ≡ Some other → other.leaf ≢ call.leaf
   pub fits : length (flat h.book) + length h.taken + 1 ≤ room
 
--- A look at the next worker takes its call exactly if the status was 1 (pending). A call that is taken has the
+-- A look at the next worker takes its call exactly if that is pending. A call that is taken has the
 -- operation of its leaf under the hold's book.
 abbrev pub took : Play
 took st m r n =
     (h : HoldView) × (m.0.own.hold ≡ Some h) × (h.published ≡ false)
-    × (r ≡ 1 → (call : OpRecord) × IsNewCall m.0.room h call × (op_of (job_seen m.0) h.book call.leaf ≡ Some call.op)
+    × (r ≡ PENDING → (call : OpRecord) × IsNewCall m.0.room h call × (op_of (job_seen m.0) h.book call.leaf ≡ Some call.op)
     × (n ≡ (with_step (taking (call_by st.word call)) m.0, (st.word, Slots.Record call) ∷ m.1)))
-    × (r ≢ 1 → missed (skipping st.word r) st m r n)
+    × (r ≢ PENDING → missed (skipping st.word r) st m r n)
     × (st.word ≡ h.looks)
 
 -- the view stays; the book has room for any batch that is due, and stays a history with it
@@ -165,14 +167,14 @@ released_shop st m r n = n ≡ (with_step releasing m.0, rest m.1)
 abbrev pub released_both : Play
 released_both st m r n = n ≡ (with_step releasing m.0, rest (rest m.1))
 
--- The pass leaves exactly if its status was 3 (served), with the receipt of the call that it posted last. The number of
+-- The pass leaves exactly if its call is served, with the receipt of the call that it posted last. The number of
 -- the receipt's batch is at least `before`, and at most one more than `after`, if that is told. The book has the call's
 -- entry there, whose operation is that of the call's leaf under the book.
 abbrev pub left : Play
 left st m r n =
-    (r ≡ 3 → (call : OpRecord) × (receipt : Receipt) × (m.0.own.posted ≡ Some call) × (m.0.own.before ≤ receipt.batch)
+    (r ≡ SERVED → (call : OpRecord) × (receipt : Receipt) × (m.0.own.posted ≡ Some call) × (m.0.own.before ≤ receipt.batch)
     × ((since : ℕ) → m.0.own.after ≡ Some since → receipt.batch ≤ since + 1)
     × ((book : List (List Entry)) × IsPrefix m.0.own.book_seen book × (op_of (job_seen m.0) book call.leaf ≡ Some call.op)
     × StandsAt book receipt.batch receipt.place (entry_of m.0.own.worker (record { call = call; receipt = receipt }))
     × (n ≡ (with_step (leaving call receipt book) m.0, (st.word, Slots.Receipt receipt) ∷ m.1))))
-    × (r ≢ 3 → missed refusing_leave st m r n) × (st.word ≡ m.0.own.worker)
+    × (r ≢ SERVED → missed refusing_leave st m r n) × (st.word ≡ m.0.own.worker)

@@ -1,5 +1,6 @@
 -- Which tasks a pass may have, the progress that a finish leaves, and the next act of a view.
-use Rattle.std.specs.Prelude.{ℕ, ◌≡◌, ◌≢◌, ◌<◌, Option as Maybe, Some}
+use Rattle.std.specs.Prelude.{ℕ, ◌≡◌, ◌≢◌, ◌<◌, ◌*◌, Option as Maybe, Some}
+use Rattle.limits.specs.declared.TheConstants.{MOST_LEAVES}
 use Rattle.core_model.specs.Words.{Kind, ParNode}
 use Rattle.table_rule.specs.CoreWords.{Progress, Done, Ran, Task, Idle, Run, Half, Started, Kept, Ended, Whole, Handed}
 use Rattle.core_model.specs.State.{CoreJob, core_job}
@@ -12,15 +13,19 @@ abbrev pub IsPar : Maybe Kind → Type 0
 IsPar (Some (ParNode l r)) = Unit {0}
 IsPar _ = ⊥
 
--- The task's node, if any, is one of the plan, and its ticks are below 80000. `Started` is at a leaf, `Half` and
+-- the ticks of a run are below this: there are at most two for each node, and fewer than twice `MOST_LEAVES` nodes
+abbrev pub most_ticks : ℕ
+most_ticks = 4 * MOST_LEAVES
+
+-- The task's node, if any, is one of the plan, and its ticks are below `most_ticks`. `Started` is at a leaf, `Half` and
 -- `Handed` are at a parallel block, and `Whole` is not at the root, after which nothing is left to do.
 abbrev pub TaskHere : CoreJob → Task → Type 0
 TaskHere job Idle = Unit {0}
 TaskHere job (Run n) = n < job.plan.count
 TaskHere job (Half p) = (p < job.plan.count) × IsPar (job.plan.kind p)
-TaskHere job (Started n s) = (n < job.plan.count) × (s < 80000) × IsLeaf (job.plan.kind n)
-TaskHere job (Kept n s) = (n < job.plan.count) × (s < 80000)
-TaskHere job (Ended n s e) = (n < job.plan.count) × (s < 80000) × (e < 80000)
+TaskHere job (Started n s) = (n < job.plan.count) × (s < most_ticks) × IsLeaf (job.plan.kind n)
+TaskHere job (Kept n s) = (n < job.plan.count) × (s < most_ticks)
+TaskHere job (Ended n s e) = (n < job.plan.count) × (s < most_ticks) × (e < most_ticks)
 TaskHere job (Whole n) = (n < job.plan.count) × (n ≢ 0)
 TaskHere job (Handed p) = (p < job.plan.count) × IsPar (job.plan.kind p)
 

@@ -2,6 +2,9 @@
 use Rattle.std.specs.Prelude.{ℕ, ◌≡◌, ◌<◌, ◌+◌, ◌*◌, ◌/◌, ◌%◌, Option, None, Some, List, length, slice_index}
 use Rattle.table_rule.specs.CoreWords.{Progress, Waiting, Ready, Taken, Done, Ran, Status, Free, Pending, Executing, Served}
 use Rattle.core_model.specs.State.{Hold}
+use Rattle.limits.specs.declared.TheConstants.{MOST_WORKERS}
+use Rattle.table_rule.specs.declared.progress.TheConstants.{READY, TAKEN, DONE, CODES, TICKS}
+use Rattle.table_rule.specs.declared.status.TheConstants.{FREE, PENDING, EXECUTING, SERVED}
 
 -- The layout: the workers' statuses, the flag, the number of batches, the tick, the stop word, then three blocks with a
 -- word for each node: its progress, its join mark (the number of sides that have arrived), and its value. All workers
@@ -45,26 +48,26 @@ slot_count workers = workers + 2
 -- worker, 20 for the start tick, and the rest for the end tick.
 abbrev pub progress_code : Progress → ℕ
 progress_code Waiting = 0
-progress_code Ready = 1
-progress_code Taken = 2
-progress_code Done = 3
-progress_code (Ran worker start end) = 3 + 4 * (worker + 32 * (start + 1048576 * end))
+progress_code Ready = READY
+progress_code Taken = TAKEN
+progress_code Done = DONE
+progress_code (Ran worker start end) = DONE + CODES * (worker + MOST_WORKERS * (start + TICKS * end))
 
 -- the parts of the progress word of a leaf that has run
 abbrev pub worker_in : ℕ → ℕ
-worker_in word = word / 4 % 32
+worker_in word = word / CODES % MOST_WORKERS
 
 abbrev pub start_in : ℕ → ℕ
-start_in word = word / 128 % 1048576
+start_in word = word / (CODES * MOST_WORKERS) % TICKS
 
 abbrev pub end_in : ℕ → ℕ
-end_in word = word / 134217728
+end_in word = word / (CODES * MOST_WORKERS * TICKS)
 
 abbrev pub status_code : Status → ℕ
-status_code Free = 0
-status_code Pending = 1
-status_code Executing = 2
-status_code (Served receipt) = 3
+status_code Free = FREE
+status_code Pending = PENDING
+status_code Executing = EXECUTING
+status_code (Served receipt) = SERVED
 
 -- 0 if the flag is free, else the holder's worker number plus 1
 abbrev pub flag_code : Option Hold → ℕ

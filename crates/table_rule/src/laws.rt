@@ -1,8 +1,9 @@
 //! The rule's laws: those of the core that the rule rests on, and what holds of every table that meets the rule.
-ghost use Rattle.std.specs.Prelude.{◌≡◌, ◌<◌, ◌≤◌, ℕ, List, [], Some, length, slice_index};
+ghost use Rattle.std.specs.Prelude.{◌≡◌, ◌<◌, ◌≤◌, ◌*◌, ℕ, List, [], Some, length, slice_index};
 ghost use Rattle.std.specs.List.{AllByRecursion};
 ghost use mathlib.Core.Option.{some};
 ghost use lib.ListN.{get_elem?};
+ghost use Rattle.limits.specs.declared.TheConstants.{MOST_LEAVES};
 ghost use Rattle.seq_objects.specs.Objects.{value_of};
 ghost use Rattle.sp_order.specs.Jobs.{job_tree};
 ghost use Rattle.sp_order.specs.Precedence.{leaves};
@@ -32,9 +33,9 @@ use sp_order::laws::{plan_has_root, plan_has_sides, plan_stands_for_tree};
 
 /// The core's laws, instantiated for a table's job.
 pub fn laws_hold()
-    ensures { (key : Setting) → (job_of key).plan.count < 40000
+    ensures { (key : Setting) → (job_of key).plan.count < 2 * MOST_LEAVES
         → length key.job.acts ≡ leaves (job_tree key.job)
-        → length key.job.acts ≤ 20000
+        → length key.job.acts ≤ MOST_LEAVES
         → HasSources (job_of key)
         → Laws (job_of key) }
 {

@@ -11,9 +11,6 @@ const LINE: usize = 8;
 /// The slots behind the record slots: the shop's and the book's.
 const SINGLE_SLOTS: usize = 2;
 
-/// The most workers that a table has. A word of a node has room for the number of one of them.
-pub const MOST_WORKERS: u32 = 32;
-
 /// The layout of a table for these numbers of workers and nodes. No method of it takes memory.
 #[derive(Clone, Copy)]
 pub struct Layout {

@@ -12,10 +12,12 @@ mod layout;
 pub mod plays;
 mod progress;
 mod slot;
+mod status;
 mod view;
 
-pub use layout::{Layout, MOST_WORKERS};
-pub use progress::{DONE, RanLeaf, TICKS, decode_undoes_encode};
+pub use layout::Layout;
+pub use progress::{CODES, DONE, READY, RanLeaf, TAKEN, TICKS, decode_undoes_encode};
 #[doc(hidden)]
 pub use slot::{OpRecord, Slot};
+pub use status::{EXECUTING, FREE, PENDING, SERVED};
 pub use view::{HoldView, LeftCall, Miss, PassView, View};

@@ -1,19 +1,26 @@
-//! The progress word of a leaf that has run: who ran it, and between which ticks, packed in one word.
+//! The progress word of a node: how far it has come, and of a leaf that has run also who ran it, and between which ticks.
 ghost use Rattle.std.specs.Prelude.{ℕ, ◌≡◌, ◌<◌};
 ghost use Rattle.table_rule.specs.CoreWords.{Ran as RanBy};
 ghost use Rattle.table_rule.specs.Words.{progress_code, worker_in, start_in, end_in};
 
-use crate::layout::MOST_WORKERS;
+use limits::MOST_WORKERS;
 
 /// The word has room for ticks below this number.
 pub const TICKS: u64 = 1 << 20;
 
-/// The code of a node that is done, in the word's two lowest bits. The worker's number stands above them.
+/// The code of a node that is ready, in the word's two lowest bits.
+pub const READY: u64 = 1;
+
+/// The code of a node that is taken.
+pub const TAKEN: u64 = 2;
+
+/// The code of a node that is done. Of a leaf, the worker and the ticks stand above it.
 pub const DONE: u64 = 3;
 
-const CODES: u64 = 4;
+/// The codes of the two lowest bits.
+pub const CODES: u64 = 4;
 
-/// What the word says.
+/// What the word of a leaf that has run says.
 #[derive(Clone, Copy)]
 pub struct RanLeaf {
     pub worker: u32,

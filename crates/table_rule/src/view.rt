@@ -29,7 +29,7 @@ pub struct Miss {
 pub struct HoldView {
     /// The number of workers looked at, in worker order from 0.
     pub looks: u64,
-    /// The status that each look found, oldest first: 1 is pending.
+    /// The status that each look found, oldest first.
     pub found: LinkedList<u64>,
     /// The calls taken, oldest first.
     pub taken: LinkedList<Call>,

@@ -20,6 +20,8 @@ use Rattle.table_rule.specs.Batches.{IsLookDue, IsPublishDue, IsReleaseDue}
 use Rattle.table_rule.specs.Tasks.{TaskHere, progress_after, job_seen}
 use Rattle.table_rule.specs.DueActs.{IsKeepDue, IsPostDue}
 use Rattle.table_rule.specs.Plays as plays
+use Rattle.table_rule.specs.declared.progress.TheConstants.{READY, TAKEN}
+use Rattle.table_rule.specs.declared.status.TheConstants.{FREE, PENDING, EXECUTING, SERVED}
 use Rattle.table_rule.specs.Steps.{StepRefines, MakesEvent, Stutters, TryMakes, ArrivalMakes, MakesLeave, SplitStutters}
 
 -- the view is one of worker k's pass at a table of this setting, after it has enrolled, with a task that such a pass
@@ -39,8 +41,8 @@ pub record IsViewOf (key : Setting) (k : ℕ) (v : View) : Type 0 where
 pub record EachCallRefines (key : Setting) (slots id k : ℕ) (v : View) (xs : List (ℕ × Slot)) : Type 0 where
   -- the job side: a claim is the event `Claim` if it finds the node ready (1), else a stutter
   pub claim : (n : ℕ) → n < (job_of key).plan.count → v.own.task ≡ Idle → v.own.call ≢ Out
-      → StepRefines (job_of key) (room_of key) slots id (v, xs) (node_at key.workers n) (λ y. either (eqb y 1) 2 y)
-      (plays.claimed (step slots (node_at key.workers n) 1 2 none) (v, xs)) (TryMakes 1 (MakesEvent (job_of key) k (Claim n)))
+      → StepRefines (job_of key) (room_of key) slots id (v, xs) (node_at key.workers n) (λ y. either (eqb y READY) TAKEN y)
+      (plays.claimed (step slots (node_at key.workers n) READY TAKEN none) (v, xs)) (TryMakes READY (MakesEvent (job_of key) k (Claim n)))
   -- A claim past the last node is a stutter. Its step looks for 4 more than the number in word 0, which is the status
   -- of worker 0: it never finds that, for a status is at most 3.
   pub claim_past_the_last : (n : ℕ) → (job_of key).plan.count ≤ n → 0 < key.workers
@@ -55,8 +57,8 @@ pub record EachCallRefines (key : Setting) (slots id k : ℕ) (v : View) (xs : L
       (plays.drawn (step slots (tick_at key.workers) 1 0 none) (v, xs)) (MakesEvent (job_of key) k (End n start))
   -- an open makes a node ready, by one of the four events that open a side
   pub open_side : (n : ℕ) (task : Task) (event : Event) → next_act (job_of key) v.own.task v.own.call ≡ Some (acts.Open n task event) → v.own.call ≢ Out
-      → StepRefines (job_of key) (room_of key) slots id (v, xs) (node_at key.workers n) (λ y. 1)
-      (λ y. plays.opened (step slots (node_at key.workers n) 1 0 none) (v, xs) 1) (MakesEvent (job_of key) k event)
+      → StepRefines (job_of key) (room_of key) slots id (v, xs) (node_at key.workers n) (λ y. READY)
+      (λ y. plays.opened (step slots (node_at key.workers n) READY 0 none) (v, xs) READY) (MakesEvent (job_of key) k event)
   -- a keep of the value that is due
   pub keep : (n start x : ℕ) → v.own.task ≡ Started n start → IsKeepDue (next_act (job_of key) v.own.task v.own.call) x → v.own.call ≢ Out
       → StepRefines (job_of key) (room_of key) slots id (v, xs) (value_at key.workers (job_of key).plan.count n) (λ y. x)
@@ -72,18 +74,18 @@ pub record EachCallRefines (key : Setting) (slots id k : ℕ) (v : View) (xs : L
       → StepRefines (job_of key) (room_of key) slots id (v, xs) (mark_at key.workers (job_of key).plan.count p) (λ y. (y + 1) % 2 ^ 64)
       (plays.arrived (step slots (mark_at key.workers (job_of key).plan.count p) 1 0 none) (v, xs))
       (ArrivalMakes (MakesEvent (job_of key) k (ArriveFirst p l r n)) (MakesEvent (job_of key) k (ArriveSecond p l r n)))
-  -- the gate: a post returns the record slot to the table, with the call in it
+  -- a post returns the record slot to the table, with the call in it
   pub post : (n start : ℕ) (call : OpRecord) → v.own.task ≡ Started n start → IsPostDue (job_of key).source v.own.told (next_act (job_of key) v.own.task v.own.call) call
-      → StepRefines (job_of key) (room_of key) slots id (v, (k, Slots.Record call) ∷ xs) k (λ y. 1)
-      (λ y. plays.posted (step slots k 1 0 none) (v, (k, Slots.Record call) ∷ xs) 1) (MakesEvent (job_of key) k (Post n start))
+      → StepRefines (job_of key) (room_of key) slots id (v, (k, Slots.Record call) ∷ xs) k (λ y. PENDING)
+      (λ y. plays.posted (step slots k PENDING 0 none) (v, (k, Slots.Record call) ∷ xs) PENDING) (MakesEvent (job_of key) k (Post n start))
   -- a win is an event if it finds the flag free (0), else a stutter
   pub win : v.own.call ≡ Out
       → StepRefines (job_of key) (room_of key) slots id (v, xs) (flag_at key.workers) (λ y. either (eqb y 0) (k + 1) y)
       (plays.won (step slots (flag_at key.workers) 0 (k + 1) none) (v, xs)) (TryMakes 0 (MakesEvent (job_of key) k Win))
   -- a look at a worker is the event `Take`, whether or not it takes a call
   pub take : (h : HoldView) (u : ℕ) → v.own.hold ≡ Some h → IsLookDue key.workers u h
-      → StepRefines (job_of key) (room_of key) slots id (v, xs) u (λ y. either (eqb y 1) 2 y)
-      (plays.took (step slots u 1 2 none) (v, xs)) (MakesEvent (job_of key) k (Take u))
+      → StepRefines (job_of key) (room_of key) slots id (v, xs) u (λ y. either (eqb y PENDING) EXECUTING y)
+      (plays.took (step slots u PENDING EXECUTING none) (v, xs)) (MakesEvent (job_of key) k (Take u))
   -- a publish returns the book to the table, with the batch, and counts it
   pub publish : (h : HoldView) (batch : List Entry) → v.own.hold ≡ Some h → IsPublishDue key.workers h batch
       → StepRefines (job_of key) (room_of key) slots id (v, (book_at key.workers, Slots.Book (reserved (h.book ++ batch ∷ []) (room_of key))) ∷ xs) (count_at key.workers) (λ y. (y + 1) % 2 ^ 64)
@@ -92,8 +94,8 @@ pub record EachCallRefines (key : Setting) (slots id k : ℕ) (v : View) (xs : L
   -- an answer returns a taken worker's record slot to the table, with its receipt
   pub answer : (h : HoldView) (u : ℕ) (call : OpRecord) (r : Receipt) → v.own.hold ≡ Some h → h.published ≡ true
       → record_in h.taken u ≡ Some call → among h.answered u ≡ false → IsReceipt (place_of h.book call.leaf) r
-      → StepRefines (job_of key) (room_of key) slots id (v, (u, Slots.Receipt r) ∷ xs) u (λ y. 3)
-      (λ y. plays.answered (step slots u 3 0 none) (v, (u, Slots.Receipt r) ∷ xs) 3) (MakesEvent (job_of key) k (Answer u r))
+      → StepRefines (job_of key) (room_of key) slots id (v, (u, Slots.Receipt r) ∷ xs) u (λ y. SERVED)
+      (λ y. plays.answered (step slots u SERVED 0 none) (v, (u, Slots.Receipt r) ∷ xs) SERVED) (MakesEvent (job_of key) k (Answer u r))
   -- a release returns the shop after a publish, and the shop and the book if nothing was published
   pub release : (h : HoldView) → v.own.hold ≡ Some h → IsReleaseDue key.workers h → h.published ≡ true
       → StepRefines (job_of key) (room_of key) slots id (v, (shop_at key.workers, Slots.Shop h.book) ∷ xs) (flag_at key.workers) (λ y. 0)
@@ -107,8 +109,8 @@ pub record EachCallRefines (key : Setting) (slots id k : ℕ) (v : View) (xs : L
       (MakesEvent (job_of key) k Release)
   -- a leave is an event if it finds its own status served (3), else a stutter
   pub leave : v.own.call ≡ Out → v.own.hold ≡ None
-      → StepRefines (job_of key) (room_of key) slots id (v, xs) k (λ y. either (eqb y 3) 0 y)
-      (plays.left (step slots k 3 0 none) (v, xs)) (TryMakes 3 (MakesLeave (job_of key) k))
+      → StepRefines (job_of key) (room_of key) slots id (v, xs) k (λ y. either (eqb y SERVED) FREE y)
+      (plays.left (step slots k SERVED FREE none) (v, xs)) (TryMakes SERVED (MakesLeave (job_of key) k))
   -- the looks, the stop and the look before a publish are stutters
   pub root_done : StepRefines (job_of key) (room_of key) slots id (v, xs) (node_at key.workers 0) (λ y. y)
       (plays.looked_at_root (step slots (node_at key.workers 0) 0 0 none) (v, xs)) Stutters

@@ -7,12 +7,12 @@
 //! events and laws; `sp_order` the plan; `seq_objects` the acts.
 #![tactic(auto)]
 
+mod calls;
 mod close;
 mod due;
-mod gate;
-mod job;
 pub mod laws;
 mod make;
+mod nodes;
 mod sending;
 mod table;
 mod turns;

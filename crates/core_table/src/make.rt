@@ -1,5 +1,6 @@
 //! Making a table in the opening state, with one pass for each worker.
-ghost use Rattle.std.specs.Prelude.{◌≡◌, ℕ, ◌+◌, ◌<◌, ◌≤◌, ◌∷◌, ◌++◌, [], Some, length, replicate, slice_set, slice_get, slice_index, IsSome, IfSome, IfOk};
+ghost use Rattle.std.specs.Prelude.{◌≡◌, ℕ, ◌+◌, ◌*◌, ◌<◌, ◌≤◌, ◌∷◌, ◌++◌, [], Some, length, replicate, slice_set, slice_get, slice_index, IsSome, IfSome, IfOk};
+ghost use Rattle.limits.specs.declared.TheConstants.{MOST_LEAVES};
 ghost use Rattle.sp_order.specs.Jobs.{job_tree};
 ghost use Rattle.sp_order.specs.Preorder.{nodes_of};
 ghost use Rattle.core_model.specs.State.{core_job};
@@ -14,22 +15,23 @@ use batch_history::ReservedHistory;
 use core_model::laws::book::job_has_its_sources;
 use core_model::{CallState, Setting, Task};
 use launch_batch::Shop;
+use limits::MOST_WORKERS;
 use seq_objects::Act;
 use sp_order::node::Kind;
 use sp_order::{Job, PlannedJob};
 use std::alloc::{AllocError, Global};
 use table_rule::laws::{laws_hold, the_stop_word_is_set_by_a_pass};
 use table_rule::plays::{Enrol, SplitSeat};
-use table_rule::{Layout, MOST_WORKERS, Slot};
+use table_rule::{Layout, READY, Slot};
 
-/// The words of the opening state: all are 0 but the root's, which is 1 (ready).
+/// The words of the opening state: all are 0 but the root's, which is ready.
 fn opening_words(alloc: Global, layout: Layout) -> Result<Vec<u64>, AllocError>
-    requires { (layout.workers ≤ MOST_WORKERS) × (0 < layout.nodes) × (layout.nodes < 40000) }
+    requires { (layout.workers ≤ MOST_WORKERS) × (0 < layout.nodes) × (layout.nodes < 2 * MOST_LEAVES) }
     ensures { IfOk result (λ v. v.items ≡ slice_set
-        (replicate (word_count layout.workers layout.nodes) 0) (node_at layout.workers 0) 1) }
+        (replicate (word_count layout.workers layout.nodes) 0) (node_at layout.workers 0) READY) }
 {
     let mut words = Vec::from_elem(alloc, 0u64, layout.word_count())?;
-    words[layout.node(0)] = 1;
+    words[layout.node(0)] = READY;
     Ok(words)
 }
 
@@ -68,7 +70,7 @@ fn calls_at(job: &PlannedJob, node: u32) -> usize
 
 /// The number of leaves that make a call, and so the most batches that a run can need.
 fn count_calls(job: &PlannedJob, nodes: u32) -> usize
-    requires { (nodes ≡ (nodes_of (job_tree job.now)).count) × (nodes < 40000) }
+    requires { (nodes ≡ (nodes_of (job_tree job.now)).count) × (nodes < 2 * MOST_LEAVES) }
     ensures { (workers : ℕ) → result ≡ call_count (core_job job.now workers) }
 {
     let mut count = 0;
@@ -80,7 +82,7 @@ fn count_calls(job: &PlannedJob, nodes: u32) -> usize
 
 impl CoreTable {
     /// The table of a job that has leaves, in the opening state, and one pass for each worker, in order of worker
-    /// number. There are 1 to 32 workers.
+    /// number.
     ///
     /// Memory: proportional to the nodes and the workers.
     pub fn make(

@@ -1,6 +1,7 @@
 //! `CoreTable`, which all workers share, and `Pass`, which each worker owns.
-ghost use Rattle.std.specs.Prelude.{◌≡◌, ◌+◌, ◌<◌, ◌≤◌, Some, length, vec_len, vec_capacity};
+ghost use Rattle.std.specs.Prelude.{◌≡◌, ◌+◌, ◌*◌, ◌<◌, ◌≤◌, Some, length, vec_len, vec_capacity};
 ghost use Rattle.std.specs.Coded.{codes};
+ghost use Rattle.limits.specs.declared.TheConstants.{MOST_LEAVES, MOST_WORKERS};
 ghost use Rattle.sp_order.specs.Jobs.{job_tree};
 ghost use Rattle.sp_order.specs.TreeEncoding.{coded_tree};
 ghost use Rattle.sp_order.specs.Precedence.{leaves};
@@ -26,10 +27,10 @@ pub struct CoreTable {
     ghost key: { (table.shared.key ≡ setting) × (nodes ≡ (job_of setting).plan.count) },
     ghost sized: { (table.shared.table_id.words ≡ word_count setting.workers nodes)
         × (table.shared.table_id.slots ≡ slot_count setting.workers) },
-    ghost few: { (0 < setting.workers) × (setting.workers ≤ 32) × (nodes < 40000) × (0 < nodes) },
+    ghost few: { (0 < setting.workers) × (setting.workers ≤ MOST_WORKERS) × (nodes < 2 * MOST_LEAVES) × (0 < nodes) },
     ghost shape: { setting.job.shape ≡ Some (job_tree setting.job) } by { Prim.hlevel (codes, coded_tree) },
     ghost acts: { (length setting.job.acts ≡ leaves (job_tree setting.job))
-        × (length setting.job.acts ≤ 20000) },
+        × (length setting.job.acts ≤ MOST_LEAVES) },
 }
 
 /// One worker's access to a table. A pass cannot be copied, so no other thread can act on the worker's task or call.
@@ -45,7 +46,7 @@ pub struct Pass {
     pub(crate) published: bool,
     ghost number: { (seat.me.0.own.worker ≡ worker) × (seat.me.0.to ≡ worker + 1) },
     ghost own: { (seat.me.0.own.task ≡ task) × (seat.me.0.own.call ≡ call) },
-    ghost room: { (32 ≤ vec_capacity owed) × (vec_len owed ≡ length owed.items) },
+    ghost room: { (MOST_WORKERS ≤ vec_capacity owed) × (vec_len owed ≡ length owed.items) },
 }
 
 impl CoreTable {

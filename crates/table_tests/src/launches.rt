@@ -42,15 +42,14 @@ fn serve_calls(alloc: Global, shop: Shop, calls: Vec<Call>) -> Result<(Shop, Bat
     Ok((shop, batch))
 }
 
-/// Looks at worker u, and gives the status that it found: 1 where the call is pending. Then it is taken, and joins the
-/// calls.
+/// Looks at worker u, and answers whether its call is pending. Then it is taken, and joins the calls.
 fn look(
     table: &CoreTable,
     pass: &mut Pass,
     shop: &Shop,
     u: u32,
     calls: &mut Vec<Call>,
-) -> Result<u64, AllocError>
+) -> Result<bool, AllocError>
     requires two { IsForTwo table.now }
     requires low { u < 2 }
     requires flag { HasFlag table.now shop.now u calls.old.items pass.old }
@@ -58,26 +57,26 @@ fn look(
 {
     let _ = shop;
     match table.take(pass, u) {
-        Ok(call) => {
+        Some(call) => {
             let call = Call {
                 worker: u,
                 leaf: call.leaf,
                 op: call.op,
             };
             calls.push(call)?;
-            Ok(1)
+            Ok(true)
         }
-        Err(seen) => Ok(seen),
+        None => Ok(false),
     }
 }
 
 /// Wins the flag, and looks at both workers. The shop and the calls that were taken, where the flag is won, there are
-/// some, and these are the statuses that were found.
+/// some, and exactly these are found pending.
 pub(crate) fn win_finding(
     alloc: Global,
     table: &CoreTable,
     pass: &mut Pass,
-    statuses: (u64, u64),
+    pending: (bool, bool),
 ) -> Result<Option<(Shop, Vec<Call>)>, AllocError>
     requires two { IsForTwo table.now }
     requires own { HasNoFlag table.now pass.old }
@@ -93,7 +92,7 @@ pub(crate) fn win_finding(
     let mut calls = Vec::new(alloc);
     let first = look(table, pass, &shop, 0, &mut calls)?;
     let second = look(table, pass, &shop, 1, &mut calls)?;
-    if (first, second) != statuses || calls.is_empty() {
+    if (first, second) != pending || calls.is_empty() {
         return Ok(None);
     }
     Ok(Some((shop, calls)))

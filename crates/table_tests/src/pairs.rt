@@ -67,23 +67,19 @@ fn post(table: &CoreTable, pass: &mut Pass, is_wanted: bool) -> bool
     }
 }
 
-/// Whether a worker whose call is out hears of no batch, does not win the flag, and finds this status instead of its
-/// receipt.
-fn is_waiting(table: &CoreTable, pass: &mut Pass, status: u64) -> bool
+/// Whether a worker whose call is out hears of no batch, does not win the flag, and finds no receipt.
+fn is_waiting(table: &CoreTable, pass: &mut Pass) -> bool
     requires own { HasNoFlag table.now pass.old }
     ensures own { result ≡ true → HasNoFlag table.now pass.new }
 {
     if !pass.trapped() || table.since(pass) != 0 || table.win(pass).is_some() {
         return false;
     }
-    match table.leave(pass) {
-        Ok(_) => false,
-        Err(seen) => seen == status,
-    }
+    table.leave(pass).is_none()
 }
 
 /// Whether worker 0 launches its call, with that of worker 1 where that is posted before worker 0 looks at it, and not
-/// just after. Worker 1 finds the flag won, and its call taken or pending.
+/// just after. Worker 1 finds the flag won, and its call not served.
 fn is_launched(
     alloc: Global,
     table: &CoreTable,
@@ -97,14 +93,13 @@ fn is_launched(
     ensures zero { IfOk result (λ done. done ≡ true → HasNoFlag table.now zero.new) }
     ensures one { IfOk result (λ done. done ≡ true → HasNoFlag table.now one.new) }
 {
-    let taken = u64::from(early);
     if !post(table, zero, true) || !post(table, one, early) {
         return Ok(false);
     }
-    let Some((shop, calls)) = win_finding(alloc, table, zero, (1, taken))? else {
+    let Some((shop, calls)) = win_finding(alloc, table, zero, (true, early))? else {
         return Ok(false);
     };
-    if !post(table, one, !early) || !is_waiting(table, one, 1 + taken) {
+    if !post(table, one, !early) || !is_waiting(table, one) {
         return Ok(false);
     }
     end_launch(alloc, table, zero, shop, calls)?;
@@ -125,7 +120,7 @@ fn is_launched_alone(
     if !is_wanted {
         return Ok(true);
     }
-    let Some((shop, calls)) = win_finding(alloc, table, pass, (0, 1))? else {
+    let Some((shop, calls)) = win_finding(alloc, table, pass, (false, true))? else {
         return Ok(false);
     };
     end_launch(alloc, table, pass, shop, calls)?;
@@ -150,11 +145,11 @@ fn leaves_with(table: &CoreTable, pass: &mut Pass, wanted: (u32, u32, u64)) -> b
         return false;
     }
     match table.leave(pass) {
-        Ok(receipt) => {
+        Some(receipt) => {
             go_on(table, pass);
             told(receipt) == wanted
         }
-        Err(_) => false,
+        None => false,
     }
 }
 

@@ -6,9 +6,9 @@ use Rattle.core_model.specs.declared.next.Next.TheVariants as acts
 use Rattle.table_rule.proofs.StepLemmas.Sides.{started_in}
 use Rattle.table_rule.proofs.StepLemmas.NextActs.{has_value, may_post, next_stands}
 use Rattle.table_rule.specs.Shows.{job_of, room_of}
-use Rattle.table_rule.proofs.StepLemmas.JobSteps as jobs
+use Rattle.table_rule.proofs.StepLemmas.NodeSteps as jobs
 use Rattle.table_rule.proofs.StepLemmas.LookSteps as looks
-use Rattle.table_rule.proofs.StepLemmas.GateSteps as gate
+use Rattle.table_rule.proofs.StepLemmas.CallSteps as gate
 use Rattle.table_rule.proofs.StepLemmas.PublishStep as publishing
 use Rattle.table_rule.proofs.StepLemmas.Starts as makings
 use Rattle.core_table.proofs.laws.each_call_is_its_event.Goals as goal

@@ -11,7 +11,7 @@ use Rattle.table_rule.specs.Views.{with_step}
 use Rattle.table_rule.proofs.TableLemmas.Moved.{record_took}
 use Rattle.core_table.proofs.ListLemmas.Owed.{to_front, to_places, owes_answered, remembers_hold}
 use Rattle.core_table.proofs.PassLemmas.PassKept.{held_out, looks_at, looks_after, pass_made, first, swapped, holder_after, carries_answered}
-use Rattle.table_rule.proofs.StepLemmas.GateSteps.{answers_at}
+use Rattle.table_rule.proofs.StepLemmas.CallSteps.{answers_at}
 use Rattle.core_table.proofs.table.CoreTable.answer.Goals.{After-turn_by, After-exchange, After-turn_by-2}
 use Rattle.core_table.proofs.table.CoreTable.answer.Goals as goal
 

@@ -10,7 +10,7 @@ use Rattle.table_rule.specs.Passes.{with_task}
 use Rattle.table_rule.specs.Views.{with_step}
 use Rattle.table_rule.proofs.StepLemmas.Sides.{block_in}
 use Rattle.table_rule.proofs.StepLemmas.NextActs.{next_stands, next_seen, handed_here}
-use Rattle.table_rule.proofs.StepLemmas.JobSteps.{arrives}
+use Rattle.table_rule.proofs.StepLemmas.NodeSteps.{arrives}
 use Rattle.core_table.proofs.PassLemmas.PassKept.{pass_stepped}
 use Rattle.core_table.proofs.table.CoreTable.arrive.Goals.{then-second, else-second}
 use Rattle.core_table.proofs.table.CoreTable.arrive.Goals as goal

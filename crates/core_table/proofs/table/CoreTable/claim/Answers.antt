@@ -1,6 +1,6 @@
 use Rattle.std.proofs.Common.{arith, refl}
 use Rattle.table_rule.specs.Shows.{room_of, job_of}
-use Rattle.table_rule.proofs.StepLemmas.JobSteps.{claims}
+use Rattle.table_rule.proofs.StepLemmas.NodeSteps.{claims}
 use Rattle.table_rule.proofs.StepLemmas.LookSteps.{strays}
 use Rattle.std.proofs.Common.{ℕ, ◌≡◌, sym, ap, ◌∙◌}
 use Rattle.table_rule.specs.Passes.{refusing}

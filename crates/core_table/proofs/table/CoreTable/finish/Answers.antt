@@ -10,7 +10,7 @@ use Rattle.table_rule.specs.Words.{progress_code}
 use Rattle.table_rule.specs.Passes.{with_task}
 use Rattle.table_rule.specs.Views.{with_step}
 use Rattle.table_rule.proofs.StepLemmas.NextActs.{next_stands, next_seen, after_here}
-use Rattle.table_rule.proofs.StepLemmas.JobSteps.{finishes}
+use Rattle.table_rule.proofs.StepLemmas.NodeSteps.{finishes}
 use Rattle.core_table.proofs.PassLemmas.PassKept.{pass_stepped}
 use Rattle.core_table.proofs.table.CoreTable.finish.Goals as goal
 

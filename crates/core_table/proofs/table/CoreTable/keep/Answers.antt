@@ -4,7 +4,7 @@ use Rattle.core_model.specs.Events.{value_in}
 use Rattle.table_rule.specs.Shows.{room_of, job_of}
 use Rattle.table_rule.proofs.StepLemmas.Sides.{started_in}
 use Rattle.table_rule.proofs.StepLemmas.NextActs.{has_value}
-use Rattle.table_rule.proofs.StepLemmas.JobSteps.{keeps_value}
+use Rattle.table_rule.proofs.StepLemmas.NodeSteps.{keeps_value}
 use Rattle.core_table.proofs.table.CoreTable.keep.Goals as goal
 
 pub store-requires : goal.store-requires

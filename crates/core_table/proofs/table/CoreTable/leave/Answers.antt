@@ -2,7 +2,7 @@ use Rattle.std.proofs.Common.{ℕ, ◌≡◌, ◌∙◌, Some, refl, sym, ap, su
 use Rattle.table_rule.specs.declared.slot.Slot.TheVariants as Slots
 use Rattle.table_rule.specs.Shows.{room_of, job_of}
 use Rattle.core_table.proofs.PassLemmas.PassKept.{first, swapped, found_slot}
-use Rattle.table_rule.proofs.StepLemmas.GateSteps.{leaves}
+use Rattle.table_rule.proofs.StepLemmas.CallSteps.{leaves}
 use Rattle.core_model.specs.State.{CoreJob}
 use Rattle.core_model.specs.Entries.{StandsAt}
 use Rattle.core_model.specs.Operations.{op_of}

@@ -6,7 +6,7 @@ use Rattle.table_rule.specs.Shows.{room_of, job_of}
 use Rattle.table_rule.specs.Passes.{opening}
 use Rattle.table_rule.specs.Views.{with_step}
 use Rattle.table_rule.proofs.StepLemmas.NextActs.{next_stands, next_seen}
-use Rattle.table_rule.proofs.StepLemmas.JobSteps.{opens}
+use Rattle.table_rule.proofs.StepLemmas.NodeSteps.{opens}
 use Rattle.core_table.proofs.PassLemmas.PassKept.{pass_stepped}
 use Rattle.core_table.proofs.table.CoreTable.open_node.Goals as goal
 

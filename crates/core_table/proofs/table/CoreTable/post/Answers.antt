@@ -3,7 +3,7 @@ use Rattle.table_rule.specs.declared.slot.Slot.TheVariants as Slots
 use Rattle.table_rule.specs.Shows.{room_of, job_of}
 use Rattle.core_table.proofs.PassLemmas.PassKept.{pass_made, first, swapped}
 use Rattle.table_rule.proofs.StepLemmas.NextActs.{may_post}
-use Rattle.table_rule.proofs.StepLemmas.GateSteps.{posts_at}
+use Rattle.table_rule.proofs.StepLemmas.CallSteps.{posts_at}
 use Rattle.atomic_table.specs.Table.{rest}
 use Rattle.table_rule.specs.Plays.{SeatState}
 use Rattle.core_table.proofs.ListLemmas.Owed.{remembers_kept}

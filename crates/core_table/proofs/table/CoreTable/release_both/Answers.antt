@@ -10,7 +10,7 @@ use Rattle.table_rule.specs.Views.{with_step}
 use Rattle.table_rule.specs.Words.{flag_at}
 use Rattle.core_table.proofs.ListLemmas.Owed.{owes_nobody, remembers_none}
 use Rattle.core_table.proofs.PassLemmas.PassKept.{held_out, pass_made, first, swapped, turned_to, holder_list, carries_released}
-use Rattle.table_rule.proofs.StepLemmas.GateSteps.{releases_both_at}
+use Rattle.table_rule.proofs.StepLemmas.CallSteps.{releases_both_at}
 use Rattle.core_table.proofs.table.CoreTable.release_both.Goals.{After-turn, After-exchange}
 use Rattle.core_table.proofs.table.CoreTable.release_both.Goals as goal
 

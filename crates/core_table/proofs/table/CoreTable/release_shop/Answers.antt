@@ -8,7 +8,7 @@ use Rattle.table_rule.specs.Views.{with_step}
 use Rattle.table_rule.specs.Words.{flag_at}
 use Rattle.core_table.proofs.ListLemmas.Owed.{owes_nobody, remembers_none}
 use Rattle.core_table.proofs.PassLemmas.PassKept.{held_out, pass_made, first, swapped, holder_after, carries_released}
-use Rattle.table_rule.proofs.StepLemmas.GateSteps.{releases_shop_at}
+use Rattle.table_rule.proofs.StepLemmas.CallSteps.{releases_shop_at}
 use Rattle.core_table.proofs.table.CoreTable.release_shop.Goals.{After-shop_slot-home, After-exchange}
 use Rattle.core_table.proofs.table.CoreTable.release_shop.Goals as goal
 

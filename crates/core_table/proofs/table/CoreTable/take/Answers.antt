@@ -9,7 +9,7 @@ use Rattle.core_table.proofs.ListLemmas.Owed.{remembers_hold, owes_passed, owes_
 use Rattle.std.proofs.lemmas.Option.{same_Some}
 use Rattle.table_rule.specs.Passes.{call_by, in_hold, after_take, after_pass, taking, skipping}
 use Rattle.table_rule.specs.Views.{with_step, with_miss}
-use Rattle.table_rule.proofs.StepLemmas.GateSteps.{looks}
+use Rattle.table_rule.proofs.StepLemmas.CallSteps.{looks}
 use Rattle.core_model.specs.State.{CoreJob}
 use Rattle.core_model.specs.Operations.{op_of}
 use Rattle.table_rule.specs.Plays.{SeatState, IsNewCall}

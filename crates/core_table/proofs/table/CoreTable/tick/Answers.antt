@@ -5,7 +5,7 @@ use Rattle.table_rule.specs.Shows.{room_of, job_of}
 use Rattle.table_rule.specs.Passes.{with_task}
 use Rattle.table_rule.specs.Views.{with_step}
 use Rattle.table_rule.proofs.StepLemmas.NextActs.{next_seen}
-use Rattle.table_rule.proofs.StepLemmas.JobSteps.{draws_due}
+use Rattle.table_rule.proofs.StepLemmas.NodeSteps.{draws_due}
 use Rattle.core_table.proofs.PassLemmas.PassKept.{pass_stepped}
 use Rattle.core_table.proofs.PassLemmas.Ticks.{ticks}
 use Rattle.core_table.proofs.table.CoreTable.tick.Goals as goal

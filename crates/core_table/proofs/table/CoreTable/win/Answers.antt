@@ -9,7 +9,7 @@ use Rattle.table_rule.specs.Passes.{new_hold, winning, refusing_win}
 use Rattle.table_rule.specs.Plays.{SeatState}
 use Rattle.table_rule.specs.Words.{flag_at, book_at}
 use Rattle.table_rule.specs.Views.{with_step, with_miss}
-use Rattle.table_rule.proofs.StepLemmas.GateSteps.{wins}
+use Rattle.table_rule.proofs.StepLemmas.CallSteps.{wins}
 use Rattle.core_table.proofs.table.CoreTable.win.Goals.{After-shop_slot-home}
 use Rattle.core_table.proofs.table.CoreTable.win.Goals as goal
 

@@ -1,5 +1,5 @@
-//! The gate side: posting a call, winning the flag, taking, publishing and answering a batch, and leaving.
-ghost use Rattle.std.specs.Prelude.{List, ◌≡◌, ◌≢◌, ℕ, ◌+◌, ◌<◌, ◌≤◌, true, false, None, Some, IfSome, IfNone, IfOk, IfErr};
+//! The calls of shared objects: posting one, winning the flag, taking, publishing and answering a batch, and leaving.
+ghost use Rattle.std.specs.Prelude.{List, ◌≡◌, ◌≢◌, ℕ, ◌+◌, ◌<◌, ◌≤◌, true, false, None, Some, IfSome, IfNone};
 ghost use Rattle.batch_history.specs.declared.batch.Entry.{Entry};
 ghost use Rattle.table_rule.specs.CoreWords.{Started, Post as PostOf};
 ghost use Rattle.core_model.specs.Measure.{call_count};
@@ -25,7 +25,7 @@ use launch_batch::Shop;
 use table_rule::plays::{
     Answer, CheckRoom, Leave, Post, Publish, ReleaseBoth, ReleaseShop, Take, Win,
 };
-use table_rule::{OpRecord, Slot};
+use table_rule::{EXECUTING, FREE, OpRecord, PENDING, SERVED, Slot};
 
 impl CoreTable {
     /// Posts the call of the started leaf. The call of a leaf with a source has the value that `source_value` told. The
@@ -42,7 +42,7 @@ impl CoreTable {
         let shared = &self.table.shared;
         let at = pass.worker as usize;
         drop(shared.exchange(&mut pass.seat, at, Slot::Record(call)));
-        shared.store::<Post>(&mut pass.seat, at, 1);
+        shared.store::<Post>(&mut pass.seat, at, PENDING);
         pass.call = CallState::Out;
     }
 
@@ -77,13 +77,13 @@ impl CoreTable {
     }
 
     /// Tries to leave with the receipt, which is of the posted call, with its operation under the book that the pass
-    /// has then seen. `Err` is the status word found, if that is not 3 (served).
-    pub fn leave(&self, pass: &mut Pass) -> Result<Receipt, u64>
+    /// has then seen. `None`: the call is not served yet.
+    pub fn leave(&self, pass: &mut Pass) -> Option<Receipt>
         requires pass { IsPassOf self.now pass.old }
         requires trapped { IsTrapped pass.old }
         requires idle { (view pass.old).own.hold ≡ None }
         ensures pass { IsPassOf self.now pass.new }
-        ensures left { IfOk result (λ receipt.
+        ensures left { IfSome result (λ receipt.
             (call : CallRecord) × ((view pass.old).own.posted ≡ Some call)
             × (book : List (List Entry)) × (view pass.new
             ≡ with_step (leaving call receipt book) (view pass.old))
@@ -93,51 +93,52 @@ impl CoreTable {
             (entry_of (view pass.new).own.worker (record { call = call; receipt = receipt }))
             × ((view pass.old).own.before ≤ receipt.batch)
             × ((since : ℕ) → (view pass.old).own.after ≡ Some since → receipt.batch ≤ since + 1)) }
-        ensures stays { IfErr result (λ seen. (miss : Miss)
-            × ((seen ≢ 3) × (miss.found ≡ seen) × IsMissOf self.now pass.old (view pass.old).own.worker miss)
+        ensures stays { IfNone result ((miss : Miss)
+            × ((miss.found ≢ SERVED) × IsMissOf self.now pass.old (view pass.old).own.worker miss)
             × (view pass.new ≡ with_miss miss refusing_leave (view pass.old))) }
     {
         self.laws_hold();
         let shared = &self.table.shared;
         let at = pass.worker as usize;
-        let seen = shared.compare_exchange::<Leave>(&mut pass.seat, at, 3, 0);
-        if seen != 3 {
-            return Err(seen);
+        let seen = shared.compare_exchange::<Leave>(&mut pass.seat, at, SERVED, FREE);
+        if seen != SERVED {
+            return None;
         }
         let Slot::Receipt(receipt) = shared.exchange(&mut pass.seat, at, Slot::Vacant) else {
             unreachable!()
         };
         pass.call = CallState::Got(receipt);
-        Ok(receipt)
+        Some(receipt)
     }
 
     /// Looks at worker `u`, the next in order, and takes its call if one is pending, with its operation under the
-    /// hold's book. `Err` is the status word found.
-    pub fn take(&self, pass: &mut Pass, u: u32) -> Result<OpRecord, u64>
+    /// hold's book.
+    pub fn take(&self, pass: &mut Pass, u: u32) -> Option<OpRecord>
         requires pass { IsPassOf self.now pass.old }
         requires due { (h : HoldView) × ((view pass.old).own.hold ≡ Some h)
             × IsLookDue (job_in self.now).workers u h }
         ensures pass { IsPassOf self.now pass.new }
-        ensures took { IfOk result (λ call.
+        ensures took { IfSome result (λ call.
             (h : HoldView) × ((view pass.old).own.hold ≡ Some h)
             × IsNewCall (call_count (job_in self.now)) h call
             × (op_of (job_in self.now) h.book call.leaf ≡ Some call.op)
             × (view pass.new ≡ with_step (taking (call_by u call)) (view pass.old))) }
-        ensures passed { IfErr result (λ seen. (miss : Miss)
-            × ((seen ≢ 1) × (miss.found ≡ seen) × IsMissOf self.now pass.old u miss)
-            × (view pass.new ≡ with_miss miss (skipping u seen) (view pass.old))) }
+        ensures passed { IfNone result ((miss : Miss)
+            × ((miss.found ≢ PENDING) × IsMissOf self.now pass.old u miss)
+            × (view pass.new ≡ with_miss miss (skipping u miss.found) (view pass.old))) }
     {
         self.laws_hold();
         let shared = &self.table.shared;
-        let seen = shared.compare_exchange::<Take>(&mut pass.seat, u as usize, 1, 2);
-        if seen != 1 {
-            return Err(seen);
+        let seen =
+            shared.compare_exchange::<Take>(&mut pass.seat, u as usize, PENDING, EXECUTING);
+        if seen != PENDING {
+            return None;
         }
         let slot = shared.exchange(&mut pass.seat, u as usize, Slot::Vacant);
         pass.seat.turn();
         pass.owed.push_reserved(u);
         match slot {
-            Slot::Record(call) => Ok(call),
+            Slot::Record(call) => Some(call),
             _ => unreachable!(),
         }
     }
@@ -181,7 +182,7 @@ impl CoreTable {
         let behind = pass.owed.len() - at;
         turn_by(&mut pass.seat, at);
         drop(shared.exchange(&mut pass.seat, u as usize, Slot::Receipt(receipt)));
-        shared.store::<Answer>(&mut pass.seat, u as usize, 3);
+        shared.store::<Answer>(&mut pass.seat, u as usize, SERVED);
         turn_by(&mut pass.seat, behind);
         pass.owed.remove(at);
     }

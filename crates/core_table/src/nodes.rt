@@ -1,11 +1,11 @@
-//! The job side (claim, tick, open, source value, keep, finish, arrive), and the calls on the root, batch count and
-//! stop word.
+//! What a pass does with the nodes of the job, and its looks at the root, the batch count and the stop word.
 ghost use Rattle.std.specs.Prelude.{◌≡◌, ◌≢◌, ℕ, ◌+◌, ◌%◌, ◌<◌, ◌≤◌, Some, IsTrue, IsFalse, IsNone};
+ghost use Rattle.limits.specs.declared.TheConstants.{MOST_WORKERS};
 ghost use Rattle.core_model.specs.declared.next.Next.TheVariants as acts;
 ghost use Rattle.core_model.specs.Events.{task_after as next_task};
 ghost use Rattle.table_rule.specs.CoreWords.{Event, Task as TaskOf, Idle, Run, Started, Kept, Ended, Handed, Start as StartOf, End as EndOf, ArriveFirst, ArriveSecond};
 ghost use Rattle.table_rule.specs.DueActs.{IsTickDue, IsOpenDue, IsSourceDue, IsKeepDue, IsFinishDue, IsArriveDue};
-ghost use Rattle.table_rule.specs.Tasks.{progress_after};
+ghost use Rattle.table_rule.specs.Tasks.{most_ticks, progress_after};
 ghost use Rattle.table_rule.specs.Words.{node_at, stop_at, progress_code};
 ghost use Rattle.table_rule.specs.declared.view.Miss.{Miss};
 ghost use Rattle.table_rule.specs.Passes.{with_task, claiming, refusing, opening, telling, keeping, finding_stop, finding_none};
@@ -19,7 +19,7 @@ use table_rule::plays::{
     Arrive, Claim, ClaimOutOfRange, DrawTick, Finish, Keep, LookAtRoot, LookAtStop, LookAtValue,
     Open, ReadBatchCount, Stop,
 };
-use table_rule::{DONE, MOST_WORKERS, RanLeaf};
+use table_rule::{CODES, DONE, READY, RanLeaf, TAKEN};
 
 /// The task after its tick is drawn: `Run` becomes `Started`, and `Kept` becomes `Ended`.
 fn ticked(task: Task, tick: u64) -> Task
@@ -40,7 +40,7 @@ fn ticked(task: Task, tick: u64) -> Task
 /// The word of a node that this worker's finish with this task marks as done.
 fn done_word(worker: u32, task: Task) -> u64
     requires worker { worker < MOST_WORKERS }
-    requires ticks { (n start end : ℕ) → task ≡ Ended n start end → (start < 80000) × (end < 80000) }
+    requires ticks { (n start end : ℕ) → task ≡ Ended n start end → (start < most_ticks) × (end < most_ticks) }
     ensures { result ≡ progress_code (progress_after worker task) }
 {
     match task {
@@ -82,7 +82,7 @@ impl CoreTable {
         ensures claimed { IsTrue result → view pass.new
             ≡ with_step (claiming node) (view pass.old) }
         ensures refused { IsFalse result → (miss : Miss)
-            × ((node < (job_in self.now).plan.count → (miss.found ≢ 1)
+            × ((node < (job_in self.now).plan.count → (miss.found ≢ READY)
             × IsMissOf self.now pass.old (node_at (job_in self.now).workers node) miss)
             × ((job_in self.now).plan.count ≤ node → IsMissOf self.now pass.old 0 miss))
             × (view pass.new ≡ with_miss miss (refusing node) (view pass.old)) }
@@ -94,7 +94,7 @@ impl CoreTable {
             return false;
         }
         let at = self.layout().node(node);
-        if shared.compare_exchange::<Claim>(&mut pass.seat, at, 1, 2) != 1 {
+        if shared.compare_exchange::<Claim>(&mut pass.seat, at, READY, TAKEN) != READY {
             return false;
         }
         pass.task = Task::Run(node);
@@ -135,7 +135,7 @@ impl CoreTable {
         self.laws_hold();
         let side = self.side_due(pass);
         let at = self.layout().node(side.node);
-        self.table.shared.store::<Open>(&mut pass.seat, at, 1);
+        self.table.shared.store::<Open>(&mut pass.seat, at, READY);
         pass.task = side.task;
         side.node
     }
@@ -221,12 +221,12 @@ impl CoreTable {
         ensures pass { IsPassOf self.now pass.new }
         ensures done { IsTrue result → view pass.new ≡ seeing_done (view pass.old) }
         ensures undone { IsFalse result → (miss : Miss)
-            × ((miss.found % 4 ≢ 3) × IsMissOf self.now pass.old (node_at (job_in self.now).workers 0) miss)
+            × ((miss.found % CODES ≢ DONE) × IsMissOf self.now pass.old (node_at (job_in self.now).workers 0) miss)
             × (view pass.new ≡ seeing_undone miss (view pass.old)) }
     {
         self.laws_hold();
         let at = self.layout().node(0);
-        self.table.shared.load::<LookAtRoot>(&mut pass.seat, at) % 4 == 3
+        self.table.shared.load::<LookAtRoot>(&mut pass.seat, at) % CODES == DONE
     }
 
     /// Looks at the number of published batches. A trapped pass may ask too.

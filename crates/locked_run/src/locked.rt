@@ -1,6 +1,6 @@
 //! The run: the workers in threads, joined, and the report.
-ghost use Rattle.std.specs.Prelude.{◌≡◌, ◌<◌, ◌≤◌, Some, IfOk, false};
-ghost use Rattle.limits.specs.declared.TheConstants.{MOST_WORKERS};
+ghost use Rattle.std.specs.Prelude.{◌≡◌, ◌*◌, ◌<◌, ◌≤◌, Some, IfOk, false};
+ghost use Rattle.limits.specs.declared.TheConstants.{MOST_LEAVES, MOST_WORKERS};
 ghost use Rattle.batch_history.specs.Lawful.{Lawful};
 ghost use Rattle.core_model.specs.Reports.{IsRunReport};
 ghost use Rattle.core_model.specs.State.{opening_core};
@@ -34,7 +34,7 @@ fn run_in_threads<S: LockedRun + Send, R: Threads + Wait + Sync, G: Pause + Sync
     pause: &G,
 ) -> Result<Report, AllocError>
     requires workers { (workers ≡ S.workers) × (0 < workers) × (workers ≤ MOST_WORKERS) }
-    requires room { room ≤ 160000 }
+    requires room { room ≤ 2 * MOST_LEAVES }
     ensures lawful { IfOk result (λ report. Lawful S.job S.workers report) }
     ensures run { IfOk result (IsRunReport S.job S.workers) }
 {
@@ -76,7 +76,7 @@ fn run_core<J: JobBrand + Send + Sync, R: Threads + Wait + Sync, G: Pause + Sync
     requires unspent { core.spent ≡ false }
     requires opening { state_in core ≡ opening_core }
     requires few_workers { J.workers ≤ MOST_WORKERS }
-    requires room { room ≤ 160000 }
+    requires room { room ≤ 2 * MOST_LEAVES }
     ensures lawful { IfOk result (λ report. Lawful J.job J.workers report) }
     ensures run { IfOk result (IsRunReport J.job J.workers) }
 {

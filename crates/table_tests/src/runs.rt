@@ -68,9 +68,8 @@ pub(crate) fn work_as_crew<R: Threads + Wait + Sync, G: Pause + Sync>(
     one: &mut Me,
     plan: Plan,
 ) -> (Result<Vec<Made>, Stop>, Result<Vec<Made>, Stop>)
-    requires workers { crew.now.workers ≡ (job_in crew.now.table).workers }
-    requires zero { IsReady crew.now.table crew.now.decks crew.now.board zero.old }
-    requires one { IsReady crew.now.table crew.now.decks crew.now.board one.old }
+    requires zero { IsReady crew.now zero.old }
+    requires one { IsReady crew.now one.old }
     ensures { IfOk result.1 (λ _. IsPassOf crew.now.table one.new.pass) }
 {
     crews_go_to_threads::<G>();

@@ -28,14 +28,13 @@ fn make_call<G: Pause, R: Wait>(
     act: Next,
     made: &mut Vec<Made>,
 ) -> Result<(), Stop>
-    requires me { IsMeOf crew.now.table crew.now.decks crew.now.board me.old }
+    requires me { IsMeOf crew.now me.old }
     requires flag { (pass_view me.old.pass).hold ≡ None }
     requires row { (desk_view me.old.desk).posted ≡ [] }
     requires free { IsNotTrapped me.old.pass }
     requires due { next_in crew.now.table (pass_view me.old.pass) ≡ Some act }
-    requires workers { crew.now.workers ≡ (job_in crew.now.table).workers }
     ensures me { IfOk result (λ _.
-        IsMeOf crew.now.table crew.now.decks crew.now.board me.new) }
+        IsMeOf crew.now me.new) }
     ensures flag { IfOk result (λ _. (pass_view me.new.pass).hold ≡ None) }
     ensures row { IfOk result (λ _. (desk_view me.new.desk).posted ≡ []) }
 {
@@ -56,12 +55,11 @@ fn try_node<G: Pause, R: Wait>(
     node: u32,
     made: &mut Vec<Made>,
 ) -> Result<(), Stop>
-    requires me { IsMeOf crew.now.table crew.now.decks crew.now.board me.old }
+    requires me { IsMeOf crew.now me.old }
     requires flag { (pass_view me.old.pass).hold ≡ None }
     requires row { (desk_view me.old.desk).posted ≡ [] }
-    requires workers { crew.now.workers ≡ (job_in crew.now.table).workers }
     ensures me { IfOk result (λ _.
-        IsMeOf crew.now.table crew.now.decks crew.now.board me.new) }
+        IsMeOf crew.now me.new) }
     ensures flag { IfOk result (λ _. (pass_view me.new.pass).hold ≡ None) }
     ensures row { IfOk result (λ _. (desk_view me.new.desk).posted ≡ []) }
 {
@@ -85,12 +83,11 @@ fn work_to<G: Pause, R: Wait>(
     me: &mut Me,
     calls: usize,
 ) -> Result<Vec<Made>, Stop>
-    requires me { IsMeOf crew.now.table crew.now.decks crew.now.board me.old }
+    requires me { IsMeOf crew.now me.old }
     requires flag { (pass_view me.old.pass).hold ≡ None }
     requires row { (desk_view me.old.desk).posted ≡ [] }
-    requires workers { crew.now.workers ≡ (job_in crew.now.table).workers }
     ensures me { IfOk result (λ _.
-        IsMeOf crew.now.table crew.now.decks crew.now.board me.new) }
+        IsMeOf crew.now me.new) }
     ensures flag { IfOk result (λ _. (pass_view me.new.pass).hold ≡ None) }
     ensures row { IfOk result (λ _. (desk_view me.new.desk).posted ≡ []) }
 {
@@ -109,7 +106,7 @@ fn work_to<G: Pause, R: Wait>(
 /// Takes a piece of worker 0's launch, and ends as a worker does that is out of memory: it sets the stop word, and never
 /// finishes the piece.
 fn leave_a_piece<G: Pause, R: Wait>(rt: &R, crew: &Crew<G>, me: &mut Me) -> Stop
-    requires me { IsMeOf crew.now.table crew.now.decks crew.now.board me.old }
+    requires me { IsMeOf crew.now me.old }
     requires other { (held me.old.hand).worker ≢ 0 }
 {
     for _ in rt.forever() {
@@ -155,8 +152,7 @@ pub(crate) trait Team<M> {
 }
 
 impl<'a, G: Pause> Team<Me> for Crew<'a, G> {
-    ghost ready = { λ crew me. (crew.workers ≡ (job_in crew.table).workers)
-        × IsMeOf crew.table crew.decks crew.board me × ((pass_view me.pass).hold ≡ None)
+    ghost ready = { λ crew me. IsMeOf crew me × ((pass_view me.pass).hold ≡ None)
         × ((desk_view me.desk).posted ≡ []) };
 
     fn work<R: Wait>(

@@ -7,18 +7,16 @@ use Rattle.two_deques.specs.declared.decks.Decks.{Decks}
 use Rattle.two_deques.specs.Ends.{after_push}
 use Rattle.two_deques.specs.Hands.{Held, held, fresh_hand, core_room_of, batch_room_of}
 use Rattle.two_deques.specs.Tries.{first_tries}
-use Rattle.piece_board.specs.declared.board.Board.{Board}
 use Rattle.piece_board.specs.Boards.{desk_view}
 use Rattle.piece_board.specs.Desks.{fresh_desk}
-use Rattle.launch_batch.specs.declared.piece.PieceIn.{PieceIn}
-use Rattle.launch_batch.specs.declared.piece.PieceOut.{PieceOut}
 use Rattle.core_table.specs.declared.table.CoreTable.{CoreTable}
-use Rattle.worker_crew.specs.declared.batch_pieces.BatchPieces.{BatchPieces}
+use Rattle.worker_crew.specs.declared.crew.Crew.{Crew}
 use Rattle.worker_crew.specs.declared.crew.Me.{Me}
 use Rattle.core_table.specs.declared.table.Pass.{Pass}
 use Rattle.core_table.specs.Passes.{job_in, planned_in, view, pass_view, opening_view, IsPassOf}
 use Rattle.table_rule.specs.Passes.{unused}
 use Rattle.worker_crew.specs.Workers.{IsReady}
+use Rattle.worker_crew.specs.declared.crew.opening.TheConstants.{PUSHES_A_CALL}
 
 -- whether the act is a call
 abbrev pub is_call : Act → Bool
@@ -35,27 +33,31 @@ opening_hand worker workers =
     if worker == 0 then with_root (fresh_hand worker workers) else fresh_hand worker workers
 
 -- Over its lifetime, each deque of nodes is guaranteed to take one push for each node of the table's job, and each deque
--- of pieces eight for each leaf that calls.
+-- of pieces `PUSHES_A_CALL` for each leaf that calls.
 abbrev pub HaveRooms : CoreTable → Decks → Type 0
 HaveRooms table decks = (core_room_of decks ≡ (job_in table).plan.count)
-    × (batch_room_of decks ≡ 8 * count_by is_call (planned_in table).acts)
+    × (batch_room_of decks ≡ PUSHES_A_CALL * count_by is_call (planned_in table).acts)
 
 -- the passes of a table that was just made, indexed by worker
 abbrev pub AreNewPasses : CoreTable → ℕ → List Pass → Type 0
 AreNewPasses table workers passes = (length passes ≡ workers)
     × ((w : ℕ) → IfSome (slice_get passes w) (λ pass. IsPassOf table pass × (view pass ≡ opening_view table w)))
 
-module _ (table : CoreTable) (decks : Decks) (board : Board BatchPieces PieceIn PieceOut) (workers : ℕ) where
+module _ {G : Type 0} (crew : Crew G) where
   -- `me` is this worker, ready for its first turn: its pass, its desk and its tries are unused, and its hand is the
   -- initial one
   pub record IsAtStart (worker : ℕ) (me : Me) : Type 0 where
-    pub ready : IsReady table decks board me
+    pub ready : IsReady crew me
     pub pass : pass_view me.pass ≡ unused worker
-    pub hand : held me.hand ≡ opening_hand worker workers
+    pub hand : held me.hand ≡ opening_hand worker crew.workers
     pub desk : desk_view me.desk ≡ fresh_desk worker
-    pub tries : me.tries ≡ first_tries worker workers
+    pub tries : me.tries ≡ first_tries worker crew.workers
 
-  -- `mes` is a list of n workers, indexed by worker, each in its initial state
-  pub record AreAtStart (n : ℕ) (mes : List Me) : Type 0 where
+  -- `mes` is a list of the first n workers, indexed by worker, each in its initial state
+  pub record AreAtStartUpTo (n : ℕ) (mes : List Me) : Type 0 where
     pub count : length mes ≡ n
     pub each : (w : ℕ) (me : Me) → w < n → me ≡ slice_index_or mes w me → IsAtStart w me
+
+  -- `mes` are the crew's workers, indexed by worker, each in its initial state
+  abbrev pub AreAtStart : List Me → Type 0
+  AreAtStart mes = AreAtStartUpTo crew.workers mes

@@ -1,18 +1,14 @@
--- The view of one worker in contracts, and when a worker belongs to a table, deques and a board.
+-- The view of one worker in contracts, and when a worker belongs to a crew.
 use Rattle.std.specs.Prelude.{ℕ, ◌≡◌, []}
 use Rattle.two_deques.specs.declared.spot.Spot.{Spot}
-use Rattle.two_deques.specs.declared.decks.Decks.{Decks}
 use Rattle.two_deques.specs.Ends.{HeldEnds}
 use Rattle.two_deques.specs.Hands.{held, workers_of, IsHandOf}
 use Rattle.two_deques.specs.Tries.{TriesView}
-use Rattle.piece_board.specs.declared.board.Board.{Board}
 use Rattle.piece_board.specs.declared.view.DeskView.{DeskView}
 use Rattle.piece_board.specs.Boards.{desk_view, IsDeskOf}
 use Rattle.launch_batch.specs.declared.piece.PieceIn.{PieceIn}
-use Rattle.launch_batch.specs.declared.piece.PieceOut.{PieceOut}
-use Rattle.core_table.specs.declared.table.CoreTable.{CoreTable}
 use Rattle.core_table.specs.Passes.{IsPassOf, pass_view}
-use Rattle.worker_crew.specs.declared.batch_pieces.BatchPieces.{BatchPieces}
+use Rattle.worker_crew.specs.declared.crew.Crew.{Crew}
 use Rattle.worker_crew.specs.declared.crew.Me.{Me}
 use Rattle.worker_crew.specs.Words.{Idle}
 use Rattle.table_rule.specs.declared.view.PassView.{PassView}
@@ -36,21 +32,21 @@ me_seen me = record {
   tries = me.tries;
 }
 
--- The pass belongs to the table, the hand to these deques and the desk to this board. All of them, and the tries, are
+-- The pass belongs to the crew's table, the hand to its deques and the desk to its board. All of them, and the tries, are
 -- of one and the same worker number, and the tries and the deques agree on the number of workers.
-pub record IsMeOf (table : CoreTable) (decks : Decks) (board : Board BatchPieces PieceIn PieceOut) (me : Me) : Type 0 where
-  pub pass : IsPassOf table me.pass
-  pub hand : IsHandOf decks me.hand
-  pub desk : IsDeskOf board me.desk
+pub record IsMeOf {G : Type 0} (crew : Crew G) (me : Me) : Type 0 where
+  pub pass : IsPassOf crew.table me.pass
+  pub hand : IsHandOf crew.decks me.hand
+  pub desk : IsDeskOf crew.board me.desk
   pub worker : (pass_view me.pass).worker ≡ (held me.hand).worker
   pub row : (desk_view me.desk).row ≡ (held me.hand).worker
   pub tries : me.tries.worker ≡ (held me.hand).worker
-  pub workers : me.tries.workers ≡ workers_of decks
+  pub workers : me.tries.workers ≡ workers_of crew.decks
 
 -- The worker may take the turn of a free worker: it has no call out, no flag and no task, and all places of its row on
 -- the board are free.
-pub record IsReady (table : CoreTable) (decks : Decks) (board : Board BatchPieces PieceIn PieceOut) (me : Me) : Type 0 where
-  pub own : IsMeOf table decks board me
+pub record IsReady {G : Type 0} (crew : Crew G) (me : Me) : Type 0 where
+  pub own : IsMeOf crew me
   pub free : IsFree (pass_view me.pass)
   pub idle : (pass_view me.pass).task ≡ Idle
   pub row : (desk_view me.desk).posted ≡ []

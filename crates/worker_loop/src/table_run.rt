@@ -1,5 +1,6 @@
 //! A run in threads over the running table.
 ghost use Rattle.std.specs.Prelude.{◌≡◌, ◌<◌, ◌≤◌, ℕ, true, Some, IsSome, IfOk, length, slice_index_or};
+ghost use Rattle.limits.specs.declared.TheConstants.{MOST_WORKERS};
 ghost use Rattle.batch_history.specs.Lawful.{Lawful};
 ghost use Rattle.core_table.specs.declared.table.Pass.{Pass as PassOf};
 ghost use Rattle.core_table.specs.Passes.{planned_in, job_in, view, IsPassOf, IsMissOf};
@@ -41,13 +42,12 @@ fn make_crew<'a, R: Threads + Sync, G: Pause>(
     pause: &'a G,
 ) -> Result<(Crew<'a, G>, Vec<Me>), AllocError>
     requires leaves { IsSome job.now.shape }
-    requires workers { (0 < workers) × (workers ≤ 32) }
+    requires workers { (0 < workers) × (workers ≤ MOST_WORKERS) }
     ensures job { IfOk result (λ made. (planned_in made.0.table ≡ job.now)
         × ((job_in made.0.table).workers ≡ workers)) }
     ensures workers { IfOk result (λ made. made.0.workers ≡ workers) }
     ensures rooms { IfOk result (λ made. HaveRooms made.0.table made.0.decks) }
-    ensures start { IfOk result (λ made. AreAtStart made.0.table made.0.decks made.0.board
-        workers workers made.1.items) }
+    ensures start { IfOk result (λ made. AreAtStart made.0 made.1.items) }
 {
     let (table, passes) = CoreTable::make(alloc, job, workers)?;
     let rooms = deck_rooms(&table);
@@ -72,8 +72,7 @@ trait SharedRun {
 }
 
 impl<'a, G: Pause> SharedRun for Crew<'a, G> {
-    ghost ready = { λ crew me. (crew.workers ≡ (job_in crew.table).workers)
-        × IsReady crew.table crew.decks crew.board me };
+    ghost ready = { λ crew me. IsReady crew me };
 
     ghost gave = { λ crew pass. IsPassOf crew.table pass };
 
@@ -120,9 +119,7 @@ fn work_as_crew<R: Threads + Wait + Sync, G: Pause + Sync>(
     crew: &Crew<G>,
     mes: Vec<Me>,
 ) -> Result<Vec<Pass>, AllocError>
-    requires workers { crew.now.workers ≡ (job_in crew.now.table).workers }
-    requires start { AreAtStart crew.now.table crew.now.decks crew.now.board crew.now.workers
-        crew.now.workers mes.items }
+    requires start { AreAtStart crew.now mes.items }
     ensures count { IfOk result (λ passes. length passes.items ≡ crew.now.workers) }
     ensures passes { IfOk result (λ passes. (w : ℕ) (pass : PassOf) → w < length passes.items
         → pass ≡ slice_index_or passes.items w pass → IsPassOf crew.now.table pass × HasEnded pass) }
@@ -175,7 +172,7 @@ pub fn run_table<R: Threads + Wait + Sync, G: Pause + Sync>(
     pause: &G,
 ) -> Result<Report, AllocError>
     requires some_workers { 0 < workers }
-    requires few_workers { workers ≤ 32 }
+    requires few_workers { workers ≤ MOST_WORKERS }
     ensures lawful { IfOk result (λ report. Lawful job.now workers report) }
     ensures run { IfOk result (IsRunReport job.now workers) }
 {

@@ -9,6 +9,7 @@ use Rattle.two_deques.specs.Ends.{HeldEnds, risen}
 use Rattle.launch_batch.specs.Calls.{ArePermutations}
 use Rattle.launch_batch.specs.Places.{places}
 use Rattle.worker_crew.specs.Words.{Event}
+use Rattle.table_rule.specs.declared.status.TheConstants.{PENDING}
 use Rattle.table_rule.specs.declared.view.HoldView.{HoldView}
 use Rattle.worker_turns.specs.Holds.{TookNone, ServedAll}
 use Rattle.worker_crew.specs.Workers.{WorkerView}
@@ -47,11 +48,12 @@ abbrev pub ArePlaces : List (List Entry) → List Call → List ℕ → Type 0
 ArePlaces book calls posted =
     (ordered : List Call) × ArePermutations calls ordered × AreInBatchOrder ordered × (posted ≡ places book ordered)
 
--- `found` has the statuses of workers `first`, `first + 1` and so on. The result is the workers with status 1, pending.
+-- `found` has the statuses of workers `first`, `first + 1` and so on. The result is the workers
+-- whose call was pending.
 abbrev pub pending_in : ℕ → List ℕ → List ℕ
 pending_in first [] = []
 pending_in first (status ∷ found) =
-    if status == 1 then first ∷ pending_in (first + 1) found else pending_in (first + 1) found
+    if status == PENDING then first ∷ pending_in (first + 1) found else pending_in (first + 1) found
 
 -- There is one status for each worker, and the calls are those of exactly the workers found pending, in worker order.
 pub record AreFound (workers : ℕ) (found : List ℕ) (calls : List Call) : Type 0 where

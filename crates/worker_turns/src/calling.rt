@@ -84,14 +84,13 @@ pub(crate) fn make_call<G: Pause, R: Wait>(
     leaf: u32,
     op: Op,
 ) -> Result<Called, Stop>
-    requires me { IsMeOf crew.now.table crew.now.decks crew.now.board me.old }
+    requires me { IsMeOf crew.now me.old }
     requires free_pass { IsFree (pass_view me.old.pass) }
     requires due { (n : ℕ) × (start : ℕ)
         × (next_in crew.now.table (pass_view me.old.pass) ≡ Some (acts.Call n start leaf op)) }
     requires free { (desk_view me.old.desk).posted ≡ [] }
-    requires workers { crew.now.workers ≡ (job_in crew.now.table).workers }
     ensures pass { IsPassOf crew.now.table me.new.pass }
-    ensures me { IfOk result (λ _. IsMeOf crew.now.table crew.now.decks crew.now.board me.new) }
+    ensures me { IfOk result (λ _. IsMeOf crew.now me.new) }
     ensures stands { IfOk result (λ called. IsServedAs (op_of (job_in crew.now.table))
         leaf (pass_view me.old.pass).worker called.receipt (pass_view me.new.pass).book_seen) }
     ensures first { IfOk result (λ called. (pass_view me.new.pass).first_since ≡ Some called.since) }
@@ -133,13 +132,12 @@ pub fn call<G: Pause, R: Wait>(
     me: &mut Me,
     leaf: u32,
 ) -> Result<Called, Stop>
-    requires me { IsMeOf crew.now.table crew.now.decks crew.now.board me.old }
+    requires me { IsMeOf crew.now me.old }
     requires free_pass { IsFree (pass_view me.old.pass) }
     requires due { IsCallDue leaf (next_in crew.now.table (pass_view me.old.pass)) }
     requires free { (desk_view me.old.desk).posted ≡ [] }
-    requires workers { crew.now.workers ≡ (job_in crew.now.table).workers }
     ensures pass { IsPassOf crew.now.table me.new.pass }
-    ensures me { IfOk result (λ _. IsMeOf crew.now.table crew.now.decks crew.now.board me.new) }
+    ensures me { IfOk result (λ _. IsMeOf crew.now me.new) }
     ensures stands { IfOk result (λ called. IsServedAs (op_of (job_in crew.now.table))
         leaf (pass_view me.old.pass).worker called.receipt (pass_view me.new.pass).book_seen) }
     ensures first { IfOk result (λ called. (pass_view me.new.pass).first_since ≡ Some called.since) }

@@ -25,13 +25,12 @@ fn make_act<G: Pause, R: Wait>(
     me: &mut Me,
     act: Next,
 ) -> Result<(), Stop>
-    requires me { IsMeOf crew.now.table crew.now.decks crew.now.board me.old }
+    requires me { IsMeOf crew.now me.old }
     requires free_pass { IsFree (pass_view me.old.pass) }
     requires due { next_in crew.now.table (pass_view me.old.pass) ≡ Some act }
     requires free { (desk_view me.old.desk).posted ≡ [] }
-    requires workers { crew.now.workers ≡ (job_in crew.now.table).workers }
     ensures pass { IsPassOf crew.now.table me.new.pass }
-    ensures me { IfOk result (λ _. IsMeOf crew.now.table crew.now.decks crew.now.board me.new) }
+    ensures me { IfOk result (λ _. IsMeOf crew.now me.new) }
     ensures free_pass { IfOk result (λ _. IsFree (pass_view me.new.pass)) }
     ensures free { IfOk result (λ _. (desk_view me.new.desk).posted ≡ []) }
     ensures carried { IfOk result (λ _. RanToIdle (me_seen me.old) (me_seen me.new)) }
@@ -71,12 +70,11 @@ pub(crate) fn run_to_idle<G: Pause, R: Wait>(
     crew: &Crew<G>,
     me: &mut Me,
 ) -> Result<(), Stop>
-    requires me { IsMeOf crew.now.table crew.now.decks crew.now.board me.old }
+    requires me { IsMeOf crew.now me.old }
     requires free_pass { IsFree (pass_view me.old.pass) }
     requires free { (desk_view me.old.desk).posted ≡ [] }
-    requires workers { crew.now.workers ≡ (job_in crew.now.table).workers }
     ensures pass { IsPassOf crew.now.table me.new.pass }
-    ensures me { IfOk result (λ _. IsMeOf crew.now.table crew.now.decks crew.now.board me.new) }
+    ensures me { IfOk result (λ _. IsMeOf crew.now me.new) }
     ensures free_pass { IfOk result (λ _. IsFree (pass_view me.new.pass)) }
     ensures idle { IfOk result (λ _. (pass_view me.new.pass).task ≡ Idle) }
     ensures free { IfOk result (λ _. (desk_view me.new.desk).posted ≡ []) }

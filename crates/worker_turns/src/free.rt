@@ -51,10 +51,10 @@ fn claim_found(table: &CoreTable, pass: &mut Pass, found: Option<u32>) -> NodeAt
 
 /// Pops the worker's own deque of nodes once, and tries to claim what it gives.
 fn pop_own_node<G: Pause>(crew: &Crew<G>, me: &mut Me) -> NodeAttempt
-    requires me { IsMeOf crew.now.table crew.now.decks crew.now.board me.old }
+    requires me { IsMeOf crew.now me.old }
     requires free { IsFree (pass_view me.old.pass) }
     requires idle { (pass_view me.old.pass).task ≡ Idle }
-    ensures me { IsMeOf crew.now.table crew.now.decks crew.now.board me.new }
+    ensures me { IsMeOf crew.now me.new }
     ensures path { IsOwnNode result (me_seen me.old) (me_seen me.new) }
 {
     let found = crew.decks.pop_core(&mut me.hand);
@@ -69,11 +69,11 @@ fn steal_once<G: Pause, R: Wait>(
     crew: &Crew<G>,
     me: &mut Me,
 ) -> Result<StealAttempt, Stop>
-    requires me { IsMeOf crew.now.table crew.now.decks crew.now.board me.old }
+    requires me { IsMeOf crew.now me.old }
     requires free { IsFree (pass_view me.old.pass) }
     requires idle { (pass_view me.old.pass).task ≡ Idle }
     ensures pass { IsPassOf crew.now.table me.new.pass }
-    ensures me { IfOk result (λ _. IsMeOf crew.now.table crew.now.decks crew.now.board me.new) }
+    ensures me { IfOk result (λ _. IsMeOf crew.now me.new) }
     ensures path { IfOk result (λ gave. IsOther gave (me_seen me.old) (me_seen me.new)) }
     ensures failed { IfErr result (λ stop. stop ≡ Memory) }
 {
@@ -101,13 +101,12 @@ pub fn free_turn<G: Pause, R: Wait>(
     crew: &Crew<G>,
     me: &mut Me,
 ) -> Result<Did, Stop>
-    requires me { IsMeOf crew.now.table crew.now.decks crew.now.board me.old }
+    requires me { IsMeOf crew.now me.old }
     requires free_pass { IsFree (pass_view me.old.pass) }
     requires idle { (pass_view me.old.pass).task ≡ Idle }
     requires free { (desk_view me.old.desk).posted ≡ [] }
-    requires workers { crew.now.workers ≡ (job_in crew.now.table).workers }
     ensures pass { IsPassOf crew.now.table me.new.pass }
-    ensures me { IfOk result (λ _. IsMeOf crew.now.table crew.now.decks crew.now.board me.new) }
+    ensures me { IfOk result (λ _. IsMeOf crew.now me.new) }
     ensures path { IfOk result (λ did. IsFreeTurn did (me_seen me.old) (me_seen me.new)) }
     ensures looked { IfOk result (λ _. (pass_view me.old.pass).stop_looks < (pass_view me.new.pass).stop_looks) }
     ensures free_pass { IfOk result (λ _. IsFree (pass_view me.new.pass)) }

@@ -1,5 +1,6 @@
 //! A launch: the combiner serves the pending calls as one batch.
-ghost use Rattle.std.specs.Prelude.{◌≡◌, ◌≢◌, ◌<◌, [], Some, IfOk, IfErr};
+ghost use Rattle.std.specs.Prelude.{ℕ, ◌≡◌, ◌≢◌, ◌<◌, [], Some, IfOk, IfErr, IfSome, IfNone};
+ghost use Rattle.table_rule.specs.declared.status.TheConstants.{PENDING};
 ghost use Rattle.table_rule.specs.declared.view.HoldView.{HoldView};
 ghost use Rattle.launch_batch.specs.Calls.{MayServe};
 ghost use Rattle.piece_board.specs.Boards.{desk_view};
@@ -24,28 +25,26 @@ use std::alloc::Global;
 use std::sync::Wait;
 use worker_crew::{Crew, Me, Stop};
 
-/// Looks at worker `u`, the next in order, and takes its call if that is pending. `Err` is the status that was found. If
-/// the calls taken before can be served as one batch, then so can they with this call.
-fn take_pending(table: &CoreTable, pass: &mut Pass, u: u32) -> Result<Call, u64>
+/// Looks at worker `u`, the next in order, and takes its call if that is pending. If the calls taken before can be
+/// served as one batch, then so can they with this call.
+fn take_pending(table: &CoreTable, pass: &mut Pass, u: u32) -> Option<Call>
     requires pass { IsPassOf table.now pass.old }
     requires below { u < (job_in table.now).workers }
     requires next { (h : HoldView) × ((pass_view pass.old).hold ≡ Some h) × (u ≡ h.looks) }
     requires fit { Holds AreFit (pass_view pass.old).hold }
     ensures pass { IsPassOf table.now pass.new }
-    ensures took { IfOk result (λ call. (call.worker ≡ u) × (pass_view pass.new ≡ taking call (pass_view pass.old))) }
-    ensures passed { IfErr result (λ status. (status ≢ 1)
+    ensures took { IfSome result (λ call. (call.worker ≡ u) × (pass_view pass.new ≡ taking call (pass_view pass.old))) }
+    ensures passed { IfNone result ((status : ℕ) × (status ≢ PENDING)
         × (pass_view pass.new ≡ skipping u status (pass_view pass.old))) }
     ensures fit { Holds AreFit (pass_view pass.new).hold }
 {
     plan_stands_for_tree();
-    match table.take(pass, u) {
-        Ok(call) => Ok(Call {
-            worker: u,
-            leaf: call.leaf,
-            op: call.op,
-        }),
-        Err(status) => Err(status),
-    }
+    let call = table.take(pass, u)?;
+    Some(Call {
+        worker: u,
+        leaf: call.leaf,
+        op: call.op,
+    })
 }
 
 /// Looks at each worker once, in order from 0, and takes each call that is pending at its look.
@@ -65,7 +64,7 @@ fn collect_pending(
 {
     let mut calls = Vec::with_capacity(alloc, workers as usize)?;
     for u in 0..workers {
-        if let Ok(call) = take_pending(table, pass, u) {
+        if let Some(call) = take_pending(table, pass, u) {
             calls.push(call)?;
         }
     }
@@ -100,12 +99,12 @@ fn serve_batch<G: Pause, R: Wait>(
     shop: Shop,
     calls: Vec<Call>,
 ) -> Result<Shop, Stop>
-    requires me { IsMeOf crew.now.table crew.now.decks crew.now.board me.old }
+    requires me { IsMeOf crew.now me.old }
     requires free { (desk_view me.old.desk).posted ≡ [] }
     requires hold { HasTaken (job_in crew.now.table).workers calls.items shop (pass_view me.old.pass).hold }
     requires may { MayServe shop calls.items }
     ensures pass { IsPassOf crew.now.table me.new.pass }
-    ensures me { IfOk result (λ _. IsMeOf crew.now.table crew.now.decks crew.now.board me.new) }
+    ensures me { IfOk result (λ _. IsMeOf crew.now me.new) }
     ensures batch { IfOk result (λ after. ServesBatch shop calls.items after (me_seen me.old) (me_seen me.new)) }
     ensures stopped { IfErr result (λ stop. IsStop stop (pass_view me.old.pass) (pass_view me.new.pass)) }
 {
@@ -128,12 +127,11 @@ pub fn launch<G: Pause, R: Wait>(
     me: &mut Me,
     shop: Shop,
 ) -> Result<(), Stop>
-    requires me { IsMeOf crew.now.table crew.now.decks crew.now.board me.old }
+    requires me { IsMeOf crew.now me.old }
     requires free { (desk_view me.old.desk).posted ≡ [] }
     requires won { (pass_view me.old.pass).hold ≡ Some (new_hold shop) }
-    requires workers { crew.now.workers ≡ (job_in crew.now.table).workers }
     ensures pass { IsPassOf crew.now.table me.new.pass }
-    ensures me { IfOk result (λ _. IsMeOf crew.now.table crew.now.decks crew.now.board me.new) }
+    ensures me { IfOk result (λ _. IsMeOf crew.now me.new) }
     ensures launched { IfOk result (λ _. Launches (job_in crew.now.table).workers shop
         (me_seen me.old) (me_seen me.new)) }
     ensures stopped { IfErr result (λ stop. IsStop stop (pass_view me.old.pass) (pass_view me.new.pass)) }

@@ -50,8 +50,8 @@ pub(crate) fn pop_own_piece<G: Pause>(
     crew: &Crew<G>,
     me: &mut Me,
 ) -> Result<PieceAttempt, Stop>
-    requires me { IsMeOf crew.now.table crew.now.decks crew.now.board me.old }
-    ensures me { IfOk result (λ _. IsMeOf crew.now.table crew.now.decks crew.now.board me.new) }
+    requires me { IsMeOf crew.now me.old }
+    ensures me { IfOk result (λ _. IsMeOf crew.now me.new) }
     ensures path { IfOk result (λ tried. IsOwnPiece tried (me_seen me.old) (me_seen me.new)) }
     ensures pass { me.new.pass ≡ me.old.pass }
     ensures failed { IfErr result (λ stop. stop ≡ Memory) }
@@ -84,8 +84,8 @@ pub(crate) fn steal_other_piece<G: Pause, R: Wait>(
     crew: &Crew<G>,
     me: &mut Me,
 ) -> Result<PieceAttempt, Stop>
-    requires me { IsMeOf crew.now.table crew.now.decks crew.now.board me.old }
-    ensures me { IfOk result (λ _. IsMeOf crew.now.table crew.now.decks crew.now.board me.new) }
+    requires me { IsMeOf crew.now me.old }
+    ensures me { IfOk result (λ _. IsMeOf crew.now me.new) }
     ensures path { IfOk result (λ tried. IsOtherPiece tried (me_seen me.old) (me_seen me.new)) }
     ensures pass { me.new.pass ≡ me.old.pass }
     ensures failed { IfErr result (λ stop. stop ≡ Memory) }

@@ -41,12 +41,11 @@ pub fn trapped_turn<G: Pause, R: Wait>(
     crew: &Crew<G>,
     me: &mut Me,
 ) -> Result<Trapped, Stop>
-    requires me { IsMeOf crew.now.table crew.now.decks crew.now.board me.old }
+    requires me { IsMeOf crew.now me.old }
     requires trapped { IsTrapped (pass_view me.old.pass) }
     requires free { (desk_view me.old.desk).posted ≡ [] }
-    requires workers { crew.now.workers ≡ (job_in crew.now.table).workers }
     ensures pass { IsPassOf crew.now.table me.new.pass }
-    ensures me { IfOk result (λ _. IsMeOf crew.now.table crew.now.decks crew.now.board me.new) }
+    ensures me { IfOk result (λ _. IsMeOf crew.now me.new) }
     ensures path { IfOk result (λ turn. IsTrappedTurn (job_in crew.now.table).workers turn
         (me_seen me.old) (me_seen me.new)) }
     ensures stays { IfOk result (λ turn. StaysTrapped turn (pass_view me.old.pass) (pass_view me.new.pass)) }
@@ -64,7 +63,7 @@ pub fn trapped_turn<G: Pause, R: Wait>(
     if let PieceAttempt::Ran(_) = own {
         return Ok(Trapped::Piece);
     }
-    if let Ok(receipt) = crew.table.leave(&mut me.pass) {
+    if let Some(receipt) = crew.table.leave(&mut me.pass) {
         return Ok(Trapped::Left(receipt));
     }
     if let Some(shop) = crew.table.win(&mut me.pass) {

@@ -23,10 +23,9 @@ fn turn<G: Pause, R: Wait>(
     me: &mut Me,
     backoff: &Backoff,
 ) -> bool
-    requires ready { IsReady crew.now.table crew.now.decks crew.now.board me.old }
-    requires workers { crew.now.workers ≡ (job_in crew.now.table).workers }
+    requires ready { IsReady crew.now me.old }
     ensures pass { IsPassOf crew.now.table me.new.pass }
-    ensures ready { result ≡ true → IsReady crew.now.table crew.now.decks crew.now.board me.new }
+    ensures ready { result ≡ true → IsReady crew.now me.new }
     ensures ended { result ≡ false → ((view me.new.pass).saw_done ≡ true) ⊎ KnowsStop (pass_view me.new.pass) }
 {
     match free_turn(rt, alloc, crew, me) {
@@ -49,8 +48,7 @@ fn turn<G: Pause, R: Wait>(
 /// A worker's main loop: takes turns until the worker sees the root done, sets the stop word or finds it set. Returns
 /// its pass.
 pub fn work<G: Pause, R: Wait>(rt: &R, alloc: Global, crew: &Crew<G>, me: Me) -> Pass
-    requires ready { IsReady crew.now.table crew.now.decks crew.now.board me }
-    requires workers { crew.now.workers ≡ (job_in crew.now.table).workers }
+    requires ready { IsReady crew.now me }
     ensures pass { IsPassOf crew.now.table result }
     ensures ended { ((view result).saw_done ≡ true) ⊎ KnowsStop (pass_view result) }
 {

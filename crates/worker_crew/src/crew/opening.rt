@@ -41,13 +41,13 @@ fn count_calls(acts: &[Act]) -> u32
 }
 
 /// The rooms of the deques of a run over this table. Over its lifetime, a deque of nodes is sure to take one push for
-/// each node of the job, and a deque of pieces eight for each leaf that calls.
+/// each node of the job, and a deque of pieces `PUSHES_A_CALL` for each leaf that calls.
 ///
 /// Memory: none.
 pub fn deck_rooms(table: &CoreTable) -> Rooms
     ensures core { result.core ≡ (job_in table.now).plan.count }
     ensures batch { result.batch ≡ PUSHES_A_CALL * count_by is_call (planned_in table.now).acts }
-    ensures most { (result.core ≤ 160000) × (result.batch ≤ 160000) }
+    ensures most { (result.core ≤ 2 * MOST_LEAVES) × (result.batch ≤ PUSHES_A_CALL * MOST_LEAVES) }
 {
     let job = table.job();
     Rooms {
@@ -85,8 +85,7 @@ fn make_workers<G: Pause>(
         → IsPassOf crew.now.table pass × (pass_view pass ≡ unused w) }
     requires hands { AreHands crew.now.decks hands.items }
     requires desks { AreDesks crew.now.board desks.items }
-    ensures { IfOk result (λ mes. AreAtStart crew.now.table crew.now.decks crew.now.board
-        crew.now.workers crew.now.workers mes.items) }
+    ensures { IfOk result (λ mes. AreAtStart crew.now mes.items) }
 {
     let mut passes = passes;
     let mut hands = hands;
@@ -105,8 +104,8 @@ fn make_workers<G: Pause>(
 
 impl<'a, G: Pause> Crew<'a, G> {
     /// The crew of a non-empty job, and its workers, indexed by worker. Node 0 is on the deque of worker 0. Over its
-    /// lifetime, each deque of nodes is sure to take one push for each node of the job, and each deque of pieces eight
-    /// for each leaf that calls.
+    /// lifetime, each deque of nodes is sure to take one push for each node of the job, and each deque of pieces
+    /// `PUSHES_A_CALL` for each leaf that calls.
     pub fn make(
         alloc: Global,
         job: &Job,
@@ -123,8 +122,7 @@ impl<'a, G: Pause> Crew<'a, G> {
         ensures rooms { IfOk result (λ made.
             (core_room_of made.0.decks ≡ (job_in made.0.table).plan.count)
             × (batch_room_of made.0.decks ≡ PUSHES_A_CALL * count_by is_call job.now.acts)) }
-        ensures start { IfOk result (λ made. AreAtStart made.0.table made.0.decks made.0.board
-            workers workers made.1.items) }
+        ensures start { IfOk result (λ made. AreAtStart made.0 made.1.items) }
     {
         let (table, passes) = CoreTable::make(alloc, job, workers)?;
         let rooms = deck_rooms(&table);
@@ -152,8 +150,7 @@ impl<'a, G: Pause> Crew<'a, G> {
         ensures decks { IfOk result (λ made. made.0.decks ≡ decks) }
         ensures workers { IfOk result (λ made. made.0.workers ≡ workers) }
         ensures rooms { IfOk result (λ made. HaveRooms made.0.table made.0.decks) }
-        ensures start { IfOk result (λ made. AreAtStart made.0.table made.0.decks made.0.board
-            workers workers made.1.items) }
+        ensures start { IfOk result (λ made. AreAtStart made.0 made.1.items) }
     {
         let (board, desks) = Board::make(alloc, workers)?;
         let crew = Crew {

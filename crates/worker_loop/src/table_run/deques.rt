@@ -1,6 +1,7 @@
 //! The deques of a run over the running table. A deque's whole room is written when it is made, and given back when it
 //! is dropped, so each worker's deques are made and given back in a thread of their own.
 ghost use Rattle.std.specs.Prelude.{◌≡◌, ◌≤◌, length, map, All, Ok, IfOk};
+ghost use Rattle.limits.specs.declared.TheConstants.{MOST_WORKERS};
 ghost use Rattle.two_deques.specs.Hands.{workers_of, core_room_of, batch_room_of, AreHands};
 ghost use Rattle.two_deques.specs.Pairs.{IsNewPair};
 
@@ -54,7 +55,7 @@ pub(super) fn make_decks<R: Threads + Sync>(
     workers: u32,
     rooms: Rooms,
 ) -> Result<(Decks, Vec<Hand>), AllocError>
-    requires few_workers { workers ≤ 32 }
+    requires few_workers { workers ≤ MOST_WORKERS }
     ensures workers { IfOk result (λ made. workers_of made.0 ≡ workers) }
     ensures rooms { IfOk result (λ made. (core_room_of made.0 ≡ rooms.core)
         × (batch_room_of made.0 ≡ rooms.batch)) }

@@ -1,5 +1,6 @@
 -- A call that is taken can be served with those that were taken before.
 use Rattle.std.proofs.Common.{ℕ, ◌≡◌, ◌≢◌, ◌<◌, ◌≤◌, ◌+◌, List, [], ◌∷◌, ◌++◌, length, map, arith, sym, subst, length-append}
+use Rattle.limits.specs.declared.TheConstants.{MOST_WORKERS, MOST_LEAVES}
 use Rattle.std.specs.List.{AllByRecursion}
 use Rattle.seq_objects.specs.Pairs.{AreDistinct}
 use Rattle.seq_objects.proofs.Elements.{each_append, each_so}
@@ -21,7 +22,7 @@ use Rattle.worker_turns.proofs.HoldLemmas.Books.{new_leaf}
 -- what calls that may be served are, and none at all too
 record AreServable (book : List (List Entry)) (calls : List Call) : Type 0 where
   workers : AreDistinct (map (λ (c : Call). c.worker) calls)
-  below : AllByRecursion (λ (c : Call). c.worker < 32) calls
+  below : AllByRecursion (λ (c : Call). c.worker < MOST_WORKERS) calls
   leaves : AreDistinct (map (λ (c : Call). c.leaf) calls)
   new : AllByRecursion (λ leaf. AllByRecursion (λ other. leaf ≢ other) (map (λ (entry : Entry). entry.leaf) (flat book))) (map (λ (c : Call). c.leaf) calls)
 
@@ -32,9 +33,9 @@ servable book (call ∷ calls) serve =
     record { workers = may.workers; below = may.below; leaves = may.leaves; new = may.new }
 
 one_more : (book : List (List Entry)) (calls : List Call) (call : Call) (looks : ℕ) → AreServable book calls → AllByRecursion (λ (c : Call). c.worker < looks) calls
-    → call.worker ≡ looks → looks < 32 → AllByRecursion (λ (c : Call). c.leaf ≢ call.leaf) calls
+    → call.worker ≡ looks → looks < MOST_WORKERS → AllByRecursion (λ (c : Call). c.leaf ≢ call.leaf) calls
     → AllByRecursion (λ other. call.leaf ≢ other) (map (λ (entry : Entry). entry.leaf) (flat book))
-    → length (flat book) + length calls + 1 ≤ 20000 → MayServe book (calls ++ call ∷ [])
+    → length (flat book) + length calls + 1 ≤ MOST_LEAVES → MayServe book (calls ++ call ∷ [])
 one_more book calls call looks fit low is few apart new most =
     let long = length-append calls (call ∷ []) in
     let worker = λ (c : Call). c.worker in
@@ -44,7 +45,7 @@ one_more book calls call looks fit low is few apart new most =
       workers = subst AreDistinct (sym (map_append worker calls (call ∷ [])))
           (distinct_last (map worker calls) call.worker fit.workers
           (each_mapped worker (λ (c : Call). c.worker < looks) (λ n. n ≢ call.worker) (λ c low' e. omega (arith, low', e, is)) calls low));
-      below = each_append (λ (c : Call). c.worker < 32) calls (call ∷ []) fit.below (omega (arith, is, few), tt);
+      below = each_append (λ (c : Call). c.worker < MOST_WORKERS) calls (call ∷ []) fit.below (omega (arith, is, few), tt);
       leaves = subst AreDistinct (sym (map_append leaf calls (call ∷ [])))
           (distinct_last (map leaf calls) call.leaf fit.leaves (each_mapped leaf (λ (c : Call). c.leaf ≢ call.leaf) (λ n. n ≢ call.leaf) (λ c ne. ne) calls apart));
       new = subst (AllByRecursion (λ n. AllByRecursion (λ other. n ≢ other) (map (λ (entry : Entry). entry.leaf) (flat book)))) (sym (map_append leaf calls (call ∷ [])))
@@ -59,7 +60,7 @@ module _ (h : HoldView) (u room : ℕ) (call : OpRecord) where
       each_so (λ (c : Call). Among c h.taken) (λ (c : Call). c.leaf ≢ call.leaf)
       (λ c there. new.apart c.worker (record_of c) (record_taken h.taken c distinct there)) h.taken (all_among h.taken)
 
-  pub fit_taken : IsNewCall room h call → room ≤ 20000 → u ≡ h.looks → u < 32 → AreFit h → AreFit (after_take (call_by u call) h)
+  pub fit_taken : IsNewCall room h call → room ≤ MOST_LEAVES → u ≡ h.looks → u < MOST_WORKERS → AreFit h → AreFit (after_take (call_by u call) h)
   fit_taken new few is low fit =
       let old = servable h.book h.taken fit.serve in
       let mine = call_by u call in

@@ -1,5 +1,6 @@
 -- The batch of a launch: how many entries and batches there are, and what is known of it.
 use Rattle.std.proofs.Common.{◌≡◌, ℕ, ◌≤◌, Option, None, Some, List, [], ◌∷◌, ◌++◌, length, get_or, sym, refl, ap, ◌∙◌, subst, arith, append_assoc}
+use Rattle.limits.specs.declared.TheConstants.{MOST_LEAVES}
 use Rattle.std.proofs.lemmas.List.{length-map}
 use Rattle.batch_history.specs.Book.{IsHistory}
 use Rattle.batch_history.specs.Serving.{calls_in, call_in}
@@ -19,7 +20,7 @@ use Rattle.worker_turns.proofs.HoldLemmas.Serving.{publish_due}
 use Rattle.launch_batch.proofs.ListLemmas.Same.{length_same}
 use Rattle.core_model.proofs.BookLemmas.Room.{few_batches}
 
-few_in : (number : ℕ) (batch : List Entry) (h : Option HoldView) → Holds (IsAnswerable number batch) h → length batch ≤ 20000
+few_in : (number : ℕ) (batch : List Entry) (h : Option HoldView) → Holds (IsAnswerable number batch) h → length batch ≤ MOST_LEAVES
 few_in number batch None due = absurd due
 few_in number batch (Some h) due =
     let same = length_same h.taken (calls_in batch) due.published.service.same in
@@ -27,7 +28,7 @@ few_in number batch (Some h) due =
     let most = due.published.may.most in
     omega (arith, same, m, most)
 
-pub few_answers : (p : PassView) (number : ℕ) (batch : List Entry) → Holds (IsAnswerable number batch) p.hold → length batch ≤ 20000
+pub few_answers : (p : PassView) (number : ℕ) (batch : List Entry) → Holds (IsAnswerable number batch) p.hold → length batch ≤ MOST_LEAVES
 few_answers p number batch held = few_in number batch p.hold held
 
 -- the batch that serves the taken calls can be published
@@ -47,7 +48,7 @@ answerable p q r workers number calls book batch entries (found, hold) may servi
     (subst (Holds (IsAnswerable number batch)) (sym (ap (λ (s : PassView). s.hold) now ∙ ap (λ (s : PassView). (publishing batch s).hold) looks.same ∙ ap (in_hold _) hold))
     (record { before = book; published = record { published = refl; book = refl; may = may; service = service }; numbered = is; none = refl }))
 
-pub few_before : (book : List (List Entry)) (calls : List Call) → IsHistory book → MayServe book calls → length book ≤ 20000
+pub few_before : (book : List (List Entry)) (calls : List Call) → IsHistory book → MayServe book calls → length book ≤ MOST_LEAVES
 few_before book calls history may =
     let few = few_batches book history.batches in
     let most = may.most in

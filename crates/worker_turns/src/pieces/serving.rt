@@ -21,11 +21,15 @@ use crate::pieces::{pop_own_piece, steal_other_piece};
 use arrayvec::ArrayVec;
 use crossbeam_utils::Backoff;
 use launch_batch::{PieceIn, PieceOut};
+use limits::PLACES;
 use run_points::Pause;
 use std::alloc::Global;
 use std::sync::Wait;
 use two_deques::Spot;
 use worker_crew::{Crew, Me, Stop};
+
+/// The most pieces of a batch, each of which has a place of its own.
+const MOST_PIECES: usize = PLACES as usize;
 
 /// Posts each piece at its place in the worker's own row, and pushes its spot on the worker's own deque of pieces.
 /// Returns the places.
@@ -33,13 +37,13 @@ fn post_all<G: Pause>(
     crew: &Crew<G>,
     me: &mut Me,
     ins: Vec<PieceIn>,
-) -> Result<ArrayVec<u32, 56>, Stop>
-    requires me { IsMeOf crew.now.table crew.now.decks crew.now.board me.old }
+) -> Result<ArrayVec<u32, MOST_PIECES>, Stop>
+    requires me { IsMeOf crew.now me.old }
     requires free { (desk_view me.old.desk).posted ≡ [] }
-    requires few { length ins.items ≤ 56 }
-    requires below { AllByRecursion (λ input. place_of input < 56) ins.items }
+    requires few { length ins.items ≤ PLACES }
+    requires below { AllByRecursion (λ input. place_of input < PLACES) ins.items }
     requires ascend { StrictlyAscends (map place_of ins.items) }
-    ensures me { IfOk result (λ _. IsMeOf crew.now.table crew.now.decks crew.now.board me.new) }
+    ensures me { IfOk result (λ _. IsMeOf crew.now me.new) }
     ensures places { IfOk result (λ places. places.items ≡ map place_of ins.items) }
     ensures desk { IfOk result (λ _. desk_view me.new.desk ≡ after_posts ins.items (desk_view me.old.desk)) }
     ensures pushed { IfOk result (λ places. (held me.new.hand).batch
@@ -69,8 +73,8 @@ fn run_own<G: Pause, R: Wait>(
     crew: &Crew<G>,
     me: &mut Me,
 ) -> Result<(), Stop>
-    requires me { IsMeOf crew.now.table crew.now.decks crew.now.board me.old }
-    ensures me { IfOk result (λ _. IsMeOf crew.now.table crew.now.decks crew.now.board me.new) }
+    requires me { IsMeOf crew.now me.old }
+    ensures me { IfOk result (λ _. IsMeOf crew.now me.new) }
     ensures desk { IfOk result (λ _. DrainsRow 0 (desk_view me.old.desk) (desk_view me.new.desk)) }
     ensures emptied { IfOk result (λ _. PopsUntilEmpty (held me.old.hand).batch (held me.new.hand).batch) }
     ensures waits { IfOk result (λ _. LooksWhileWaiting (me_seen me.old) (me_seen me.new)) }
@@ -95,12 +99,12 @@ fn collect_one<G: Pause, R: Wait>(
     me: &mut Me,
     place: u32,
 ) -> Result<PieceOut, Stop>
-    requires me { IsMeOf crew.now.table crew.now.decks crew.now.board me.old }
-    requires place { place < 56 }
+    requires me { IsMeOf crew.now me.old }
+    requires place { place < PLACES }
     requires first { (input : Input) × (rest : List (ℕ × Input))
         × ((desk_view me.old.desk).posted ≡ (place, input) ∷ rest) }
     ensures pass { IsPassOf crew.now.table me.new.pass }
-    ensures me { IfOk result (λ _. IsMeOf crew.now.table crew.now.decks crew.now.board me.new) }
+    ensures me { IfOk result (λ _. IsMeOf crew.now me.new) }
     ensures meets { IfOk result (λ out. (input : Input) (rest : List (ℕ × Input))
         → (desk_view me.old.desk).posted ≡ (place, input) ∷ rest → Meets input out) }
     ensures desk { IfOk result (λ _. DrainsRow 1 (desk_view me.old.desk) (desk_view me.new.desk)) }
@@ -132,11 +136,11 @@ fn collect_all<G: Pause, R: Wait>(
     me: &mut Me,
     places: &[u32],
 ) -> Result<Vec<PieceOut>, Stop>
-    requires me { IsMeOf crew.now.table crew.now.decks crew.now.board me.old }
+    requires me { IsMeOf crew.now me.old }
     requires posted { (ins : List Input) × (places.now ≡ map place_of ins)
-        × ((desk_view me.old.desk).posted ≡ map with_place ins) × AllByRecursion (λ input. place_of input < 56) ins }
+        × ((desk_view me.old.desk).posted ≡ map with_place ins) × AllByRecursion (λ input. place_of input < PLACES) ins }
     ensures pass { IsPassOf crew.now.table me.new.pass }
-    ensures me { IfOk result (λ _. IsMeOf crew.now.table crew.now.decks crew.now.board me.new) }
+    ensures me { IfOk result (λ _. IsMeOf crew.now me.new) }
     ensures meet { IfOk result (λ outs. (ins : List Input)
         → (desk_view me.old.desk).posted ≡ map with_place ins → AllMeet Meets ins outs.items) }
     ensures desk { IfOk result (λ _. DrainsRow (length places.now) (desk_view me.old.desk) (desk_view me.new.desk)) }
@@ -162,13 +166,13 @@ pub(crate) fn serve_pieces<G: Pause, R: Wait>(
     me: &mut Me,
     ins: Vec<PieceIn>,
 ) -> Result<Vec<PieceOut>, Stop>
-    requires me { IsMeOf crew.now.table crew.now.decks crew.now.board me.old }
+    requires me { IsMeOf crew.now me.old }
     requires free { (desk_view me.old.desk).posted ≡ [] }
-    requires few { length ins.items ≤ 56 }
-    requires below { AllByRecursion (λ input. place_of input < 56) ins.items }
+    requires few { length ins.items ≤ PLACES }
+    requires below { AllByRecursion (λ input. place_of input < PLACES) ins.items }
     requires ascend { StrictlyAscends (map place_of ins.items) }
     ensures pass { IsPassOf crew.now.table me.new.pass }
-    ensures me { IfOk result (λ _. IsMeOf crew.now.table crew.now.decks crew.now.board me.new) }
+    ensures me { IfOk result (λ _. IsMeOf crew.now me.new) }
     ensures meet { IfOk result (λ outs. AllMeet Meets ins.items outs.items) }
     ensures desk { IfOk result (λ _.
         ExecutesPieces (map place_of ins.items) (desk_view me.old.desk) (desk_view me.new.desk)) }

@@ -6,7 +6,7 @@ use Rattle.table_tests.proofs.workers.work_to.Given as goal
 
 abbrev pub invariant-loop : goal.invariant-loop
 invariant-loop g l = record {
-  me : IsMeOf l.crew.table l.crew.decks l.crew.board l.me;
+  me : IsMeOf l.crew l.me;
   flag : (pass_view l.me.pass).hold ≡ None;
   row : (desk_view l.me.desk).posted ≡ [];
   node : l.node < 400;

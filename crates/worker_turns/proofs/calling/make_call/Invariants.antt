@@ -14,7 +14,7 @@ use Rattle.worker_turns.proofs.calling.make_call.Given as goal
 
 abbrev pub invariant-loop : goal.invariant-loop
 invariant-loop g l = record {
-  me : IsMeOf l.crew.table l.crew.decks l.crew.board l.me;
+  me : IsMeOf l.crew l.me;
   trapped : IsTrapped (pass_view l.me.pass);
   job : IsJobSame (pass_view l.fn.me.pass) (pass_view l.me.pass);
   posted : (op : Op) × ((pass_view l.me.pass).posted ≡ Some (record { leaf = l.fn.leaf; op = op }));

@@ -8,7 +8,7 @@ use Rattle.worker_turns.proofs.carry.run_to_idle.Given as goal
 
 abbrev pub invariant-loop : goal.invariant-loop
 invariant-loop g l = record {
-  me : IsMeOf l.crew.table l.crew.decks l.crew.board l.me;
+  me : IsMeOf l.crew l.me;
   free_pass : IsFree (pass_view l.me.pass);
   free : (desk_view l.me.desk).posted ≡ [];
   carried : RanToIdle (me_seen l.initial.me) (me_seen l.me);

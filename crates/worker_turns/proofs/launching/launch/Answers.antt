@@ -13,7 +13,7 @@ release-requires-clause-due g c =
     let calls = c.in_ok-calls.calls.items in
     let old = pass_view c.args.me.now.pass in
     let mid = pass_view c.collect_pending.new.pass in
-    let is : HasLooked workers calls old mid = subst (λ (n : ℕ). HasLooked n calls old mid) c.requires.workers c.in_ok-calls.ensures.looked in
+    let is : HasLooked workers calls old mid = subst (λ (n : ℕ). HasLooked n calls old mid) c.args.crew.now.job c.in_ok-calls.ensures.looked in
     let none : length calls ≡ 0 = search (rules, c.is_empty.ensures, c.if-is_empty.true) in
     none_release old mid workers calls c.args.shop c.requires.won is (no_call calls none)
 
@@ -23,7 +23,7 @@ release-requires-2-clause-due g c =
     let calls = c.in_ok-calls.calls.items in
     let old = pass_view c.args.me.now.pass in
     let mid = pass_view c.collect_pending.new.pass in
-    let is : HasLooked workers calls old mid = subst (λ (n : ℕ). HasLooked n calls old mid) c.requires.workers c.in_ok-calls.ensures.looked in
+    let is : HasLooked workers calls old mid = subst (λ (n : ℕ). HasLooked n calls old mid) c.args.crew.now.job c.in_ok-calls.ensures.looked in
     let some : calls ≢ [] = search rules in
     let may = taken_serve old mid workers calls c.args.shop c.requires.won is c.in_ok-calls.ensures.fit some in
     served_release (record (me_seen c.args.me.now) { pass = mid }) _ workers calls c.args.shop c.in_ok-shop.shop
@@ -35,7 +35,7 @@ returns-clause-launched g c =
     let calls = c.in_ok-calls.calls.items in
     let old = pass_view c.args.me.now.pass in
     let mid = pass_view c.collect_pending.new.pass in
-    let is : HasLooked workers calls old mid = subst (λ (n : ℕ). HasLooked n calls old mid) c.requires.workers c.in_ok-calls.ensures.looked in
+    let is : HasLooked workers calls old mid = subst (λ (n : ℕ). HasLooked n calls old mid) c.args.crew.now.job c.in_ok-calls.ensures.looked in
     let some : calls ≢ [] = search rules in
     let may = taken_serve old mid workers calls c.args.shop c.requires.won is c.in_ok-calls.ensures.fit some in
     served_launched (me_seen c.args.me.now) _ mid (pass_view c.serve_batch.new.me.pass) workers calls c.args.shop c.in_ok-shop.shop c.requires.won may
@@ -47,6 +47,6 @@ returns-then-is_empty-clause-launched g c =
     let calls = c.in_ok-calls.calls.items in
     let old = me_seen c.args.me.now in
     let mid = pass_view c.collect_pending.new.pass in
-    let is : HasLooked workers calls old.pass mid = subst (λ (n : ℕ). HasLooked n calls old.pass mid) c.requires.workers c.in_ok-calls.ensures.looked in
+    let is : HasLooked workers calls old.pass mid = subst (λ (n : ℕ). HasLooked n calls old.pass mid) c.args.crew.now.job c.in_ok-calls.ensures.looked in
     let none : length calls ≡ 0 = search (rules, c.is_empty.ensures, c.if-is_empty.true) in
     none_launched old _ mid workers calls c.args.shop c.requires.won is (no_call calls none) (ap (λ (p : PassView). record old { pass = p }) (own_of _ _ c.release.ensures.released)) c.requires.free

@@ -2,4 +2,4 @@ use Rattle.worker_crew.specs.Workers.{IsReady}
 use Rattle.worker_turns.proofs.worker.work.Given as goal
 
 abbrev pub invariant-loop : goal.invariant-loop
-invariant-loop g l = IsReady l.crew.table l.crew.decks l.crew.board l.me
+invariant-loop g l = IsReady l.crew l.me

@@ -2,7 +2,7 @@ use Rattle.std.proofs.Common.{◌<◌, ◌+◌, ◌∙◌, ℕ, List, ap, sym, s
 use Rattle.two_deques.specs.Hands.{Held, workers_of}
 use Rattle.piece_board.specs.Boards.{workers_of as rows_of}
 use Rattle.worker_crew.specs.declared.crew.Me.{Me}
-use Rattle.worker_crew.specs.Opening.{opening_hand, AreAtStart}
+use Rattle.worker_crew.specs.Opening.{opening_hand, AreAtStartUpTo}
 use Rattle.worker_crew.proofs.OpeningLemmas.Taking.{left_then, next_of}
 use Rattle.worker_crew.proofs.OpeningLemmas.Gathering.{at_start, one_more}
 use Rattle.worker_crew.proofs.crew.opening.make_workers.Goals as goal
@@ -31,13 +31,13 @@ loop-worker-preserved g c =
     let opened = c.in_ok-opening.ensures.opening
     ∙ ap (λ (k : ℕ). opening_hand k (workers_of crew.decks)) (ap (λ (h : Held). h.worker) hand.1)
     ∙ ap (λ (k : ℕ). opening_hand w k) (sym crew.each.0) in
-    let start = at_start crew.table crew.decks crew.board crew.workers w
+    let start = at_start crew w
     (record { pass = c.remove.result; hand = c.in_ok-opening.field-0; desk = c.remove-in-loop-worker-2.result; tries = c.new.result })
-    pass c.in_ok-opening.ensures.hand opened desk.0 desk.1 c.new.ensures (sym crew.each.0) in record {
+    pass c.in_ok-opening.ensures.hand opened desk.0 desk.1 c.new.ensures in record {
       passes = left_then c.args.passes.items _ _ _ i.passes c.remove.ensures.by_index.2;
       hands = left_then c.args.hands.items _ _ _ i.hands c.remove-in-loop-worker.ensures.by_index.2;
       desks = left_then c.args.desks.items _ _ _ i.desks c.remove-in-loop-worker-2.ensures.by_index.2;
       inside = omega (arith, inside);
-      mes = subst (λ (l : List Me). AreAtStart crew.table crew.decks crew.board crew.workers (w + 1) l)
-          (sym c.in_ok-push.ensures.items) (one_more crew.table crew.decks crew.board crew.workers w _ _ i.mes start);
+      mes = subst (λ (l : List Me). AreAtStartUpTo crew (w + 1) l)
+          (sym c.in_ok-push.ensures.items) (one_more crew w _ _ i.mes start);
     }

@@ -1,5 +1,5 @@
 use Rattle.std.proofs.Common.{◌≡◌, ◌≤◌, drop}
-use Rattle.worker_crew.specs.Opening.{AreAtStart}
+use Rattle.worker_crew.specs.Opening.{AreAtStartUpTo}
 use Rattle.worker_crew.proofs.crew.opening.make_workers.Given as goal
 
 abbrev pub invariant-loop-worker : goal.invariant-loop-worker
@@ -8,5 +8,5 @@ invariant-loop-worker g l = record {
   hands : l.hands.items ≡ drop l.worker l.fn.hands.items;
   desks : l.desks.items ≡ drop l.worker l.fn.desks.items;
   inside : l.worker ≤ l.crew.workers;
-  mes : AreAtStart l.crew.table l.crew.decks l.crew.board l.crew.workers l.worker l.mes.items;
+  mes : AreAtStartUpTo l.crew l.worker l.mes.items;
 }

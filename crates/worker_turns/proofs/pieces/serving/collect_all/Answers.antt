@@ -1,4 +1,5 @@
 use Rattle.std.proofs.Common.{[], List, refl, sym, ap, ◌∙◌, subst, arith}
+use Rattle.limits.specs.declared.TheConstants.{PLACES}
 use Rattle.seq_objects.specs.Pieces.{AllMeet}
 use Rattle.launch_batch.specs.declared.piece.PieceOut.{PieceOut}
 use Rattle.launch_batch.specs.Pieces.{place_of, Meets}
@@ -29,7 +30,7 @@ collect_one-requires-clause-place g c =
     let r = c.requires.posted in
     let i = c.loop-k.invariant in
     let p = next_posted place_of c.args.places.now _ _ r.0 c.loop-k.k r.1 r.2 (ap (λ (d : Desk). d.posted) i.desk.is) c.loop-k-test.true in
-    let below = at_below place_of 56 r.0 c.loop-k.k p.0 r.3 p.5 (sym (p.4 p.0)) in
+    let below = at_below place_of PLACES r.0 c.loop-k.k p.0 r.3 p.5 (sym (p.4 p.0)) in
     let here = next_place place_of c.args.places.now r.0 c.loop-k.k p.0 r.1 p.5 (p.4 p.0) in
     omega (arith, below, here)
 

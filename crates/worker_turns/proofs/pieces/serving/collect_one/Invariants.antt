@@ -11,7 +11,7 @@ use Rattle.worker_turns.proofs.pieces.serving.collect_one.Given as goal
 
 abbrev pub invariant-loop : goal.invariant-loop
 invariant-loop g l = record {
-  me : IsMeOf l.crew.table l.crew.decks l.crew.board l.me;
+  me : IsMeOf l.crew l.me;
   core : (held l.me.hand).core ≡ (held l.initial.me.hand).core;
   stole : OnlyStole (held l.initial.me.hand).batch (held l.me.hand).batch;
   waits : LooksWhileWaiting (me_seen l.initial.me) (me_seen l.me);

@@ -1,4 +1,5 @@
 use Rattle.std.proofs.Common.{rules, ◌≡◌, ◌<◌, ◌∷◌, ◌++◌, [], length, map, sym, ap, ◌∙◌, subst, arith, ℕ, List, length-append}
+use Rattle.limits.specs.declared.TheConstants.{PLACES}
 use Rattle.std.proofs.lemmas.Grind.{common_steps}
 use Rattle.std.proofs.lemmas.List.{map-append, length-map}
 use Rattle.std.specs.List.{AllByRecursion}
@@ -18,7 +19,7 @@ pub post-requires-clause-place : goal.post-requires-clause-place
 post-requires-clause-place g c =
     let i = c.loop-input.invariant in
     let all : c.args.ins.items ≡ c.loop-input.yielded ++ c.in-Some.input ∷ c.next.new.self.rest.items = grind (arith, common_steps, c.in-Some.ensures.steps, i.all, c.into_iter-input-iterator.ensures.into_iter_gives) in
-    let below = each_right (λ input. place_of input < 56) c.loop-input.yielded (c.in-Some.input ∷ c.next.new.self.rest.items) (subst (λ (l : List PieceIn). AllByRecursion (λ input. place_of input < 56) l) all c.requires.below) in
+    let below = each_right (λ input. place_of input < PLACES) c.loop-input.yielded (c.in-Some.input ∷ c.next.new.self.rest.items) (subst (λ (l : List PieceIn). AllByRecursion (λ input. place_of input < PLACES) l) all c.requires.below) in
     let is = c.place-place.ensures in
     omega (arith, below.0, is)
 

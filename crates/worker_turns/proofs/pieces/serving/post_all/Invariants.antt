@@ -10,7 +10,7 @@ use Rattle.worker_turns.proofs.pieces.serving.post_all.Given as goal
 
 abbrev pub invariant-loop-input : goal.invariant-loop-input
 invariant-loop-input g l = record {
-  me : IsMeOf l.crew.table l.crew.decks l.crew.board l.me;
+  me : IsMeOf l.crew l.me;
   core : (held l.me.hand).core ≡ (held l.initial.me.hand).core;
   batch : (held l.me.hand).batch ≡ after_pushes (spots_of l.row l.places.items) (held l.initial.me.hand).batch;
   pass : l.me.pass ≡ l.initial.me.pass;

@@ -9,7 +9,7 @@ use Rattle.worker_turns.proofs.pieces.serving.run_own.Given as goal
 
 abbrev pub invariant-loop : goal.invariant-loop
 invariant-loop g l = record {
-  me : IsMeOf l.crew.table l.crew.decks l.crew.board l.me;
+  me : IsMeOf l.crew l.me;
   core : (held l.me.hand).core ≡ (held l.initial.me.hand).core;
   waits : LooksWhileWaiting (me_seen l.initial.me) (me_seen l.me);
   pops : Pops (held l.initial.me.hand).batch (held l.me.hand).batch;

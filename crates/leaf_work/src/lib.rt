@@ -1,0 +1,14 @@
+//! What the leaves of work of a job compute.
+//!
+//! `LeafWork` is a function of the caller's, from the number of a leaf of work to its value, with its meaning. `Spin` is
+//! the work of `seq_objects`. `WorkBrand` is a meaning as a type, by which the type of a core says what its leaves
+//! compute.
+#![tactic(auto)]
+
+mod brand;
+mod function;
+mod spin;
+
+pub use brand::WorkBrand;
+pub use function::LeafWork;
+pub use spin::Spin;

@@ -37,9 +37,9 @@ answer_with u None = None
 answer_with u (Some place) = Some (Answer u (receipt_for place))
 
 -- the least worker owed an answer gets the receipt of its leaf's entry; if none is owed, the flag is released
-abbrev pub choice_answer : CoreJob → State → Option ℕ → Option Event
-choice_answer job s None = Some Release
-choice_answer job s (Some u) = answer_with u (place_of s.book (leaf_named job.plan (names (s.task u))))
+abbrev pub choice_answer : Nodes → State → Option ℕ → Option Event
+choice_answer plan s None = Some Release
+choice_answer plan s (Some u) = answer_with u (place_of s.book (leaf_named plan (names (s.task u))))
 
 -- the turn of the flag's owner: look at each worker in order, publish if some call is taken, answer each taken worker,
 -- then release the flag
@@ -47,7 +47,7 @@ abbrev pub choice_holding : CoreJob → State → Hold → Option Event
 choice_holding job s h =
     if nat_lt h.looks job.workers then Some (Take h.looks)
     else if some_below h.taken job.workers && not h.published then Some Publish
-    else choice_answer job s (least_below (is_owed h) job.workers)
+    else choice_answer job.plan s (least_below (is_owed h) job.workers)
 
 -- a worker with a pending call wins the flag if it is free
 abbrev pub choice_pending : Option Hold → Option Event

@@ -59,7 +59,7 @@ module _ (job : CoreJob) (s : State) (w : ℕ) (h : InductiveParts job s) (hd : 
   answer_task u _ mine calls fits published took owed executing = absurd calls
 
   answer_gives : (o : Option ℕ) → least_below (is_owed hd) job.workers ≡ o → hd.looks ≡ job.workers → ((u : ℕ) → hd.taken u ≡ true → hd.published ≡ true)
-      → Gives job s w (choice_answer job s o)
+      → Gives job s w (choice_answer job.plan s o)
   answer_gives None none looks public =
       (hd, holds, looks, λ u took. not_both (hd.taken u) (hd.answered u) took (no_least (is_owed hd) job.workers none u (rw looks at (stands.2 u took))))
   answer_gives (Some u) least looks public =
@@ -82,8 +82,8 @@ module _ (job : CoreJob) (s : State) (w : ℕ) (h : InductiveParts job s) (hd : 
   pub holding_gives : Gives job s w (choice_holding job s hd)
   holding_gives =
       if_both (Gives job s w) (nat_lt hd.looks job.workers) (Some (Take hd.looks))
-      (if some_below hd.taken job.workers && not hd.published then Some Publish else choice_answer job s (least_below (is_owed hd) job.workers))
+      (if some_below hd.taken job.workers && not hd.published then Some Publish else choice_answer job.plan s (least_below (is_owed hd) job.workers))
       (λ e. (hd, holds, refl, ltb-true hd.looks job.workers e))
-      (λ e. if_both (Gives job s w) (some_below hd.taken job.workers && not hd.published) (Some Publish) (choice_answer job s (least_below (is_owed hd) job.workers))
+      (λ e. if_both (Gives job s w) (some_below hd.taken job.workers && not hd.published) (Some Publish) (choice_answer job.plan s (least_below (is_owed hd) job.workers))
       (λ f. publish_gives (has_looked e) f)
       (λ f. answer_gives (least_below (is_owed hd) job.workers) refl (has_looked e) (is_public (has_looked e) f (some_below hd.taken job.workers) refl)))

@@ -1,6 +1,6 @@
 //! Applying an event to the stored state: one function for each rule of the model, and the dispatch to it.
 ghost use Rattle.std.specs.Prelude.{◌≡◌, ◌<◌, ℕ, IfOk};
-ghost use Rattle.core_model.specs.Settings.{job_of};
+ghost use Rattle.core_model.specs.Settings.{job_with};
 ghost use Rattle.core_model.specs.Events.{Needs, Does};
 ghost use Rattle.core_model.specs.Ranges.{IsInRange};
 ghost use Rattle.core_state.specs.Code.CallEvents.{IsCallEvent};
@@ -17,12 +17,13 @@ mod publish;
 
 use crate::state::State;
 use core_model::{Event, Setting, Task};
+use leaf_work::WorkBrand;
 use std::alloc::{AllocError, Global};
 
 impl State {
     /// Applies an event of a call or of the flag. After an `AllocError` the event may be half done.
     #[inline(always)]
-    fn apply_to_calls(
+    fn apply_to_calls<B: WorkBrand>(
         &mut self,
         alloc: Global,
         setting: &Setting,
@@ -30,13 +31,13 @@ impl State {
         event: Event,
     ) -> Result<(), AllocError>
         requires kind { IsCallEvent event }
-        requires fits { Represents setting.now self.old }
+        requires fits { Represents B.work setting.now self.old }
         requires worker_in { worker < setting.now.workers }
-        requires in_range { IsInRange (job_of setting.now).plan.count setting.now.workers event }
-        requires needs { Needs (job_of setting.now) (state_of self.old) worker event }
+        requires in_range { IsInRange (job_with B.work setting.now).plan.count setting.now.workers event }
+        requires needs { Needs (job_with B.work setting.now) (state_of self.old) worker event }
         ensures sizes { IfOk result (λ _. SameSizes self.old self.new) }
         ensures event { IfOk result
-            (λ _. Does (job_of setting.now) (state_of self.old) worker event (state_of self.new)) }
+            (λ _. Does (job_with B.work setting.now) (state_of self.old) worker event (state_of self.new)) }
         ensures lists { IfOk result (λ _. ready_of self.new
             ≡ ready_after worker event (ready_of self.old)) }
     {
@@ -44,7 +45,7 @@ impl State {
             Event::Post { .. } => self.post(worker),
             Event::Win => self.win(worker),
             Event::Take(other) => self.take(other),
-            Event::Publish => self.publish(alloc, setting, worker)?,
+            Event::Publish => self.publish::<B>(alloc, setting, worker)?,
             Event::Answer {
                 worker: other,
                 receipt,
@@ -58,21 +59,21 @@ impl State {
 
     /// Applies an event of a worker. After an `AllocError` the event may be half done.
     #[inline(always)]
-    pub fn apply(
+    pub fn apply<B: WorkBrand>(
         &mut self,
         alloc: Global,
         setting: &Setting,
         worker: u32,
         event: Event,
     ) -> Result<(), AllocError>
-        requires fits { Represents setting.now self.old }
+        requires fits { Represents B.work setting.now self.old }
         requires worker_in { worker < setting.now.workers }
-        requires in_range { IsInRange (job_of setting.now).plan.count setting.now.workers event }
-        requires needs { Needs (job_of setting.now) (state_of self.old) worker event }
+        requires in_range { IsInRange (job_with B.work setting.now).plan.count setting.now.workers event }
+        requires needs { Needs (job_with B.work setting.now) (state_of self.old) worker event }
         requires at_end { (n : ℕ) → event ≡ Claim n → IsAtOneEnd n (ready_of self.old) }
         ensures sizes { IfOk result (λ _. SameSizes self.old self.new) }
         ensures event { IfOk result
-            (λ _. Does (job_of setting.now) (state_of self.old) worker event (state_of self.new)) }
+            (λ _. Does (job_with B.work setting.now) (state_of self.old) worker event (state_of self.new)) }
         ensures lists { IfOk result (λ _. ready_of self.new
             ≡ ready_after worker event (ready_of self.old)) }
     {
@@ -94,7 +95,7 @@ impl State {
             Event::ArriveSecond { parent, .. } => {
                 self.arrive(worker, parent, 2, Task::Handed(parent));
             }
-            _ => self.apply_to_calls(alloc, setting, worker, event)?,
+            _ => self.apply_to_calls::<B>(alloc, setting, worker, event)?,
         }
         Ok(())
     }

@@ -1,7 +1,7 @@
 -- The preconditions of an event's code: the tick and the looks have room, and a claimed node is at an end of its list.
 use Rattle.std.proofs.Common.{ℕ, ◌≡◌, ◌<◌, ◌+◌, ◌^◌, Option, Some, None, IfSome, IsSome, arith, refl, sym, ◌∙◌, ap}
 use Rattle.sp_order.specs.Jobs.{JobValue, job_tree}
-use Rattle.core_model.proofs.Words.{Hold, core_job}
+use Rattle.core_model.proofs.Words.{Hold, core_job_with}
 use Rattle.core_state.specs.Words.{Event, Claim, Take}
 use Rattle.sp_order.specs.Preorder.{nodes_of}
 use Rattle.core_state.specs.declared.hold.Hold.{Hold as StoredHold}
@@ -42,26 +42,26 @@ look_room : (o : Option StoredHold) (hd : Hold) → hold_of o ≡ Some hd → hd
 look_room None hd is room = tt
 look_room (Some h) hd is room = let e : h.looks ≡ hd.looks = ap looks_of is in omega (arith, e, room)
 
-module _ (job : JobValue) (workers : ℕ) (t : StoredState) (w : ℕ) (h : RepInvariant job workers t) where
+module _ {work : ℕ → ℕ} (job : JobValue) (workers : ℕ) (t : StoredState) (w : ℕ) (h : RepInvariant work job workers t) where
   -- the tick stays below 2^64
   pub room : t.tick + 1 < 2 ^ 64
-  room = let l = tick_most (core_job job workers) (state_of t) h.laws (kept_parts job workers t h) in let m = h.most in let e = tick_of t in omega (arith, l, m, e)
+  room = let l = tick_most (core_job_with work job workers) (state_of t) h.laws (kept_parts job workers t h) in let m = h.most in let e = tick_of t in omega (arith, l, m, e)
 
   -- the looks stay below 32
-  pub take_room : (u : ℕ) → Needs (core_job job workers) (state_of t) w (Take u) → IfSome t.hold (λ (h : StoredHold). h.looks < 32)
+  pub take_room : (u : ℕ) → Needs (core_job_with work job workers) (state_of t) w (Take u) → IfSome t.hold (λ (h : StoredHold). h.looks < 32)
   take_room u needs =
       let few = h.few in let at = needs.2 in let below = needs.3 in
       look_room t.hold needs.0 (sym (held t) ∙ needs.1.0) (omega (arith, few, at, below))
 
-  module _ (below : w < workers) (event : Event) (chosen : choice (core_job job workers) (core_state_of t) w ≡ Some event) where
-    pub chosen_needs : Needs (core_job job workers) (state_of t) w event
-    chosen_needs = choice_needs (core_job job workers) (core_state_of t) w event h.laws below (kept_parts job workers t h) h.inv.lists chosen
+  module _ (below : w < workers) (event : Event) (chosen : choice (core_job_with work job workers) (core_state_of t) w ≡ Some event) where
+    pub chosen_needs : Needs (core_job_with work job workers) (state_of t) w event
+    chosen_needs = choice_needs (core_job_with work job workers) (core_state_of t) w event h.laws below (kept_parts job workers t h) h.inv.lists chosen
 
     pub chosen_in_range : IsInRange (nodes_of (job_tree job)).count workers event
-    chosen_in_range = event_in (core_job job workers) (state_of t) h.laws (kept_parts job workers t h) w event chosen_needs
+    chosen_in_range = event_in (core_job_with work job workers) (state_of t) h.laws (kept_parts job workers t h) w event chosen_needs
 
     -- a claimed node stands at an end of its list
     pub chosen_at_end : (n : ℕ) → event ≡ Claim n → IsAtOneEnd n (ready_of t)
     chosen_at_end n claims =
-        let needs : Needs (core_job job workers) (state_of t) w (Claim n) = rw claims at chosen_needs in
-        claim_ends (core_job job workers) (core_state_of t) w n (kept_parts job workers t h) h.inv.lists needs.0 needs.1 (chosen ∙ ap Some claims)
+        let needs : Needs (core_job_with work job workers) (state_of t) w (Claim n) = rw claims at chosen_needs in
+        claim_ends (core_job_with work job workers) (core_state_of t) w n (kept_parts job workers t h) h.inv.lists needs.0 needs.1 (chosen ∙ ap Some claims)

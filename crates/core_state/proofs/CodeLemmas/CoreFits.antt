@@ -3,7 +3,7 @@ use Rattle.std.proofs.Common.{ℕ, ◌≡◌, ◌≢◌, ◌<◌, Some, arith, r
 use Rattle.core_model.proofs.Words.{Nodes, CoreJob, names}
 use Rattle.core_state.specs.Words.{Progress, Task, Idle, Run, Half, Started, Kept, Ended, Whole, Handed, Free, NotCalled, Out}
 use Rattle.core_state.specs.declared.state.State.{State as StoredState}
-use Rattle.core_model.specs.Settings.{job_of, HasLeaf, TaskIn}
+use Rattle.core_model.specs.Settings.{job_of, job_with, HasLeaf, TaskIn}
 use Rattle.core_model.specs.Invariant.Statuses.{IsAtCall, is_taken_by}
 use Rattle.core_model.specs.declared.setting.Setting.{Setting}
 use Rattle.core_model.proofs.ChoiceLemmas.Gate.{taken_row}
@@ -38,18 +38,18 @@ has_leaf : (job : CoreJob) (node : ℕ → Progress) (mark : ℕ → ℕ) (task 
 has_leaf job node mark (Started n s) fits call = fits.0
 has_leaf job node mark _ fits call = absurd call
 
-pub looks : (setting : Setting) (t : StoredState) → Represents setting t → CanChoose setting t
-looks setting t h =
+pub looks : {work : ℕ → ℕ} (setting : Setting) (t : StoredState) → Represents work setting t → CanChoose setting t
+looks {work} setting t h =
     let kept = kept_parts setting.job setting.workers t h in
-    let room = rw (book_is t) at (book_room (job_of setting) (state_of t) kept h.calls_in) in
+    let room = rw (book_is t) at (book_room (job_with work setting) (state_of t) kept h.calls_in) in
     let most = h.most in
     record {
       few = h.few;
       sizes = h.sizes;
-      tasks_in = λ w. task_in (job_of setting).plan.count ((state_of t).task w) (λ n name. named_in (job_of setting) (state_of t) h.laws kept w n name);
+      tasks_in = λ w. task_in (job_of setting).plan.count ((state_of t).task w) (λ n name. named_in (job_with work setting) (state_of t) h.laws kept w n name);
       at_leaf = λ w n start e. started_leaf (job_of setting).plan (state_of t).node (state_of t).mark ((state_of t).task w) n start (kept.tasks.fits w) e;
-      owed = λ w taken. has_leaf (job_of setting) (state_of t).node (state_of t).mark ((state_of t).task w) (kept.tasks.fits w)
-          (taken_row (job_of setting) (state_of t).book ((state_of t).task w) ((state_of t).status w) ((state_of t).call w) (is_taken_by (state_of t).hold w) taken (kept.statuses w)).1;
+      owed = λ w taken. has_leaf (job_with work setting) (state_of t).node (state_of t).mark ((state_of t).task w) (kept.tasks.fits w)
+          (taken_row (job_with work setting) (state_of t).book ((state_of t).task w) ((state_of t).status w) ((state_of t).call w) (is_taken_by (state_of t).hold w) taken (kept.statuses w)).1;
       shop = h.shop;
       leaves = rw (book_is t) at kept.book.leaves;
       few_batches = omega (arith, room.0, room.1, most);
@@ -57,9 +57,9 @@ looks setting t h =
     }
 
 -- a worker that is trapped has started a leaf
-pub trapped_has_leaf : (setting : Setting) (t : StoredState) → Represents setting t → (w : ℕ) → (state_of t).status w ≢ Free → HasLeaf (job_of setting).plan ((state_of t).task w)
-trapped_has_leaf setting t h w trapped =
+pub trapped_has_leaf : {work : ℕ → ℕ} (setting : Setting) (t : StoredState) → Represents work setting t → (w : ℕ) → (state_of t).status w ≢ Free → HasLeaf (job_of setting).plan ((state_of t).task w)
+trapped_has_leaf {work} setting t h w trapped =
     let kept = kept_parts setting.job setting.workers t h in
     let out = (h.inv.parts.statuses.out w).1 trapped in
-    has_leaf (job_of setting) (state_of t).node (state_of t).mark ((state_of t).task w) (kept.tasks.fits w)
+    has_leaf (job_with work setting) (state_of t).node (state_of t).mark ((state_of t).task w) (kept.tasks.fits w)
     (h.inv.parts.statuses.at_call w (λ none. let clash : NotCalled ≡ Out = sym none ∙ out in cc))

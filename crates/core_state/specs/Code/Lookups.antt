@@ -6,7 +6,7 @@ use Rattle.core_model.specs.Settings.{HasLeaf, TaskIn, job_of}
 use Rattle.core_state.specs.Code.Sizes.{HasShop, Sizes}
 use Rattle.core_model.specs.Invariant.Statuses.{is_taken_by}
 use Rattle.core_model.specs.Operations.{IsLeaf}
-use Rattle.core_state.specs.WorkDue.{work_due}
+use Rattle.core_state.specs.WorkDue.{IsValueOf, work_due}
 use Rattle.core_model.specs.declared.event.Event.{Event}
 use Rattle.core_model.specs.declared.event.Event.TheVariants.{Claim}
 use Rattle.core_model.specs.declared.setting.Setting.{Setting}
@@ -14,8 +14,7 @@ use Rattle.core_state.specs.declared.state.State.{State as StoredState}
 use Rattle.core_model.specs.declared.task.Task.TheVariants.{Started}
 use Rattle.limits.specs.declared.TheConstants.{MOST_WORKERS}
 use Rattle.seq_objects.specs.Pairs.{AreDistinct}
-use Rattle.seq_objects.specs.Spin.{spin_of}
-use Rattle.std.specs.Prelude.{IfSome, List, Option, Some, [], length, map, true, ℕ, ◌+◌, ◌-◌, ◌<◌, ◌^◌, ◌∷◌, ◌≡◌, ◌≤◌}
+use Rattle.std.specs.Prelude.{List, Option, Some, [], length, map, true, ℕ, ◌+◌, ◌-◌, ◌<◌, ◌^◌, ◌∷◌, ◌≡◌, ◌≤◌}
 
 -- the preconditions of the lookups that choose a turn
 pub record CanChoose (setting : Setting) (t : StoredState) : Type 0 where
@@ -36,7 +35,6 @@ abbrev pub claim_choice : ℕ → (ℕ → List ℕ) → ℕ → List ℕ → Op
 claim_choice workers ready w [] = choice_steal ready workers (w + 1) (workers - 1)
 claim_choice workers ready w (n ∷ ns) = Some (Claim (last_of n ns))
 
--- if a value is given and the worker has work due, the value is the result of that work
-abbrev pub IsWorkOf : Setting → StoredState → ℕ → Option ℕ → Type 0
-IsWorkOf setting t w work =
-    IfSome work (λ value. (steps : ℕ) → work_due (job_of setting) ((state_of t).task w) ((state_of t).call w) ≡ Some steps → value ≡ spin_of steps)
+-- if the worker has work due, this is its value, where the leaves of work compute `work`
+abbrev pub IsWorkOf : (ℕ → ℕ) → Setting → StoredState → ℕ → Option ℕ → Type 0
+IsWorkOf work setting t w value = IsValueOf work (work_due (job_of setting) ((state_of t).task w) ((state_of t).call w)) value

@@ -1,26 +1,25 @@
 //! The choice of a worker that claims a node, the event of a next act, and the work that is due.
-ghost use Rattle.std.specs.Prelude.{◌≡◌, ◌<◌, ◌≤◌, ℕ, None, Some, IfSome, IsTrue};
+ghost use Rattle.std.specs.Prelude.{◌≡◌, ◌<◌, ◌≤◌, None, Some, IsSome, IsTrue};
 ghost use Rattle.limits.specs.declared.TheConstants.{MOST_WORKERS};
 ghost use Rattle.core_model.specs.Next.{event_of};
 ghost use Rattle.core_model.specs.Settings.{job_of};
 ghost use Rattle.core_state.specs.Abstraction.{state_of, ready_of};
 ghost use Rattle.core_state.specs.Code.Lookups.{CanChoose, claim_choice};
-ghost use Rattle.core_state.specs.WorkDue.{steps_of, work_due};
-ghost use Rattle.seq_objects.specs.Spin.{spin_of};
+ghost use Rattle.core_state.specs.WorkDue.{steps_of, work_due, IsValueOf};
 
 use crate::state::State;
 use core_model::{Event, Next, Setting};
+use leaf_work::WorkBrand;
 use seq_objects::value;
-use seq_objects::work::spin;
 
-/// The value of `steps` steps of work: `work` if that was computed already, and otherwise computed here.
-fn value_of_work(work: Option<u64>, steps: u32) -> u64
-    requires { IfSome work (λ value. value ≡ spin_of steps) }
-    ensures { result ≡ spin_of steps }
+/// The value of the work that is due, which must be given.
+fn given(work: Option<u64>) -> u64
+    requires { IsSome work }
+    ensures { work ≡ Some result }
 {
     match work {
         Some(value) => value,
-        None => u64::from(spin(steps)),
+        None => unreachable!(),
     }
 }
 
@@ -70,20 +69,19 @@ impl State {
         }
     }
 
-    /// The event that an act is. `work` is the value of the work that the act asks for, if it was computed already.
+    /// The event that an act is. `work` is the value of the work that the act asks for, if it asks for some.
     #[inline(always)]
-    pub(crate) fn event_of(&self, act: Next, work: Option<u64>) -> Event
-        requires { IfSome work (λ value. (steps : ℕ) → steps_of (Some act) ≡ Some steps
-            → value ≡ spin_of steps) }
-        ensures { result ≡ event_of (state_of self.now).mark act }
+    pub(crate) fn event_of<B: WorkBrand>(&self, act: Next, work: Option<u64>) -> Event
+        requires { IsValueOf B.work (steps_of (Some act)) work }
+        ensures { result ≡ event_of B.work (state_of self.now).mark act }
     {
         match act {
             Next::Start { node, .. } => Event::Start(node),
             Next::Open { event, .. } => event,
-            Next::Spin { node, start, steps } => Event::Keep {
+            Next::Spin { node, start, .. } => Event::Keep {
                 node,
                 start,
-                value: value_of_work(work, steps),
+                value: given(work),
             },
             Next::Call { node, start, .. } => Event::Post { node, start },
             Next::Got { node, start, reply } => Event::Keep {

@@ -6,12 +6,12 @@ use Rattle.core_state.proofs.BatchLemmas.Publishing.{at_call, taken_owed, can_se
 use Rattle.core_state.proofs.state.State.publish.Goals as goal
 
 pub unreachable-requires : goal.unreachable-requires
-unreachable-requires c = no_hold c.args.self.now c.requires.needs.0 c.in_default.is c.requires.needs.1.0
+unreachable-requires g c = no_hold c.args.self.now c.requires.needs.0 c.in_default.is c.requires.needs.1.0
 
 -- the calls of the last batch are no part of what the state represents
 pub put_taken_calls-requires-clause-fits : goal.put_taken_calls-requires-clause-fits
 unfolding state_of ready_of
-put_taken_calls-requires-clause-fits c =
+put_taken_calls-requires-clause-fits g c =
     let fits = c.requires.fits in record {
       some = fits.some;
       few = fits.few;
@@ -38,27 +38,27 @@ put_taken_calls-requires-clause-fits c =
 
 pub put_taken_calls-requires-clause-started : goal.put_taken_calls-requires-clause-started
 unfolding state_of
-put_taken_calls-requires-clause-started c = λ v below took.
+put_taken_calls-requires-clause-started g c = λ v below took.
     (looks c.args.setting.now c.args.self.now c.requires.fits).owed v (taken_owed c.args.worker c.requires.fits c.requires.needs c.in-Some.is v took)
 
 pub put_taken_calls-requires-clause-at_call : goal.put_taken_calls-requires-clause-at_call
 unfolding state_of
-put_taken_calls-requires-clause-at_call c = λ v below took. at_call c.args.worker c.requires.fits c.requires.needs c.in-Some.is v took
+put_taken_calls-requires-clause-at_call g c = λ v below took. at_call c.args.worker c.requires.fits c.requires.needs c.in-Some.is v took
 
 pub serve_taken-requires : goal.serve_taken-requires
 unfolding state_of
-serve_taken-requires c = record {
+serve_taken-requires g c = record {
   there = rw c.take.ensures.value c.requires.fits.shop;
   may = rw c.take.ensures.value (can_serve c.args.worker c.requires.fits c.requires.needs c.in-Some.is c.in_ok-put_taken_calls.ensures);
 }
 
 pub returns-clause-event : goal.returns-clause-event
 unfolding state_of
-returns-clause-event c =
+returns-clause-event g c =
     let served = rw c.take.ensures.value at c.in_ok-shop.ensures in
     let batch = served_batch c.args.worker c.requires.fits c.requires.needs c.in-Some.is c.in_ok-put_taken_calls.ensures served.0 served.1 in
     (served.0, batch, rw (c.in-Some.is, c.publish.ensures, c.put_back.ensures, served.2, served_then (book_of c.args.self.now.shop) served.0) refl)
 
 pub returns-clause-lists : goal.returns-clause-lists
 unfolding ready_of
-returns-clause-lists c = refl
+returns-clause-lists g c = refl

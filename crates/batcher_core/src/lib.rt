@@ -15,8 +15,8 @@ pub mod turn;
 
 pub use core_model::{CallState, Event, Progress, Receipt, Status, Task};
 pub use core_state::Doing;
-pub use driver::drive;
-pub use scheduler::Core;
-pub use spun::Spun;
+pub use driver::{drive, drive_with};
+pub use scheduler::{Core, CoreWith};
+pub use spun::{Spun, SpunWith};
 pub use stopped::{Ended, drive_some};
 pub use turn::Turn;

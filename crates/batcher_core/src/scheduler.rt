@@ -1,44 +1,50 @@
 //! The scheduler's core: a job, its workers, and the turns that run it.
 ghost use Rattle.std.specs.Prelude.{◌≡◌, ◌<◌, ◌≤◌, ℕ, IfOk, IfErr, IsSome, IfSome, MatchOption, Some, None, true, false, IsTrue, map};
-ghost use Rattle.seq_objects.specs.Spin.{spin_of};
 ghost use Rattle.core_model.specs.State.{opening_core};
 ghost use Rattle.core_model.specs.Choice.{choice};
 ghost use Rattle.sp_order.specs.Jobs.{job_tree};
 ghost use Rattle.sp_order.specs.Precedence.{leaves};
-ghost use Rattle.batch_history.specs.Lawful.{Lawful};
+ghost use Rattle.batch_history.specs.Lawful.{LawfulWith};
 ghost use Rattle.core_model.specs.Invariant.{Invariant};
 ghost use Rattle.core_model.specs.LeafSources.{HasSources};
 ghost use Rattle.core_model.specs.Reports.{IsReportOf, IsRowOf};
 ghost use Rattle.std.specs.List.{AllByRecursion, range_with_len};
 ghost use Rattle.limits.specs.declared.TheConstants.{MOST_WORKERS};
-ghost use Rattle.batcher_core.specs.Cores.{job_in, state_in, due_in, moved_if, turn_answer, is_over_in, IsTurnResult};
+ghost use Rattle.batcher_core.specs.Cores.{job_in_with, state_in, due_in, moved_if, turn_answer, is_over_in, IsTurnResult};
 ghost use Rattle.core_state.specs.Code.Representation.{RepInvariant};
+ghost use Rattle.core_state.specs.WorkDue.{IsValueOf};
 ghost use Rattle.batcher_core.specs.Doings.{doing_in};
 
 use crate::report::rows_of;
-use crate::spun::Spun;
+use crate::spun::SpunWith;
 use crate::turn::Turn;
 use batch_history::{History, Report, Row, Rows};
 use core_model::laws::book::job_has_its_sources;
 use core_model::laws::report::{done_leaves_have_run, done_report_is_lawful};
 use core_model::{Event, Setting};
 use core_state::{Doing, State, history_of};
+use leaf_work::{LeafWork, Spin, WorkBrand};
 use sp_order::Job;
 use sp_order::laws::{plan_has_sides, plan_stands_for_tree};
 use std::alloc::{AllocError, Global};
-use std::marker::Model;
+use std::marker::{Model, PhantomData};
 
-/// The scheduler's core: a job, its workers, and their present state. After an allocation failure in a turn the core is
-/// spent: its state may be part of the way through an event, and it takes no more turns.
+/// The scheduler's core: a job, its workers, and their present state. `B` says what the leaves of work compute. After an
+/// allocation failure in a turn the core is spent: its state may be part of the way through an event, and it takes no
+/// more turns.
 #[derive(Drop)]
-pub struct Core {
+pub struct CoreWith<B: WorkBrand> {
     alloc: Global,
     setting: Setting,
     table: State,
     spent: bool,
+    of: PhantomData<B>,
 }
 
-impl Model for Core {
+/// The core of a job whose leaves of work spin.
+pub type Core = CoreWith<Spin>;
+
+impl<B: WorkBrand> Model for CoreWith<B> {
     ghost use Rattle.std.specs.Prelude.{◌≡◌, ◌<◌, false};
     ghost use Rattle.std.specs.Coded.{codes};
     ghost use Rattle.sp_order.specs.Jobs.{coded_job};
@@ -56,13 +62,13 @@ impl Model for Core {
       spent = c.spent;
     } };
 
-    ghost invariant = { λ c. (0 < c.setting.workers) × (c.spent ≡ false → Represents c.setting c.table) };
+    ghost invariant = { λ c. (0 < c.setting.workers) × (c.spent ≡ false → Represents B.work c.setting c.table) };
 }
 
 /// The value of the given work, if there is any.
-fn value_of(spun: &Option<Spun>) -> Option<u64>
+fn value_of<B: WorkBrand>(spun: &Option<SpunWith<B>>) -> Option<u64>
     ensures none { spun.now ≡ None → result ≡ None }
-    ensures some { IfSome spun.now (λ s. result ≡ Some (spin_of s)) }
+    ensures some { IfSome spun.now (λ s. result ≡ Some (B.work s)) }
 {
     match spun {
         None => None,
@@ -70,11 +76,11 @@ fn value_of(spun: &Option<Spun>) -> Option<u64>
     }
 }
 
-impl Core {
+impl<B: WorkBrand> CoreWith<B> {
     /// The core of a job with leaves, in the opening state.
     ///
     /// Memory: proportional to the nodes and the workers.
-    pub fn start(alloc: Global, job: &Job, workers: u32) -> Result<Core, AllocError>
+    pub fn start(alloc: Global, job: &Job, workers: u32) -> Result<CoreWith<B>, AllocError>
         requires leaves { IsSome job.now.shape }
         requires some_workers { 0 < workers }
         requires few_workers { workers ≤ MOST_WORKERS }
@@ -88,11 +94,12 @@ impl Core {
         job_has_its_sources();
         let setting = Setting::of(alloc, job, workers)?;
         let table = State::opening(alloc, setting.job.nodes(), workers)?;
-        Ok(Core {
+        Ok(CoreWith {
             alloc,
             setting,
             table,
             spent: false,
+            of: PhantomData,
         })
     }
 
@@ -105,17 +112,31 @@ impl Core {
         self.table.work_due(&self.setting, worker)
     }
 
-    /// The event of a worker's next turn, if it has one. `work` is the value of the work that is due, if it was
-    /// computed already.
+    /// The value of the work that a worker has due, if it has some. The work is done here, by `work`.
+    #[inline(always)]
+    pub(crate) fn do_due<W: LeafWork>(&self, worker: u32, work: &W) -> Result<Option<u64>, AllocError>
+        requires worker_in { worker < self.now.workers }
+        requires meaning { W.meaning work.now ≡ B.work }
+        ensures { IfOk result (λ value. IsValueOf B.work (due_in self.now worker) value) }
+    {
+        if self.spent {
+            return Err(AllocError);
+        }
+        match self.due(worker) {
+            Some(steps) => Ok(Some(u64::from(work.run(self.alloc, steps)?))),
+            None => Ok(None),
+        }
+    }
+
+    /// The event of a worker's next turn, if it has one. `work` is the value of the work that is due, if some is.
     #[inline(always)]
     fn choice(&self, worker: u32, work: Option<u64>) -> Option<Event>
         requires unspent { self.now.spent ≡ false }
         requires worker_in { worker < self.now.workers }
-        requires work { IfSome work (λ value. (steps : ℕ) → due_in self.now worker ≡ Some steps
-            → value ≡ spin_of steps) }
-        ensures { result ≡ choice (job_in self.now) (state_in self.now) worker }
+        requires work { IsValueOf B.work (due_in self.now worker) work }
+        ensures { result ≡ choice (job_in_with B.work self.now) (state_in self.now) worker }
     {
-        self.table.choose(&self.setting, worker, work)
+        self.table.choose::<B>(&self.setting, worker, work)
     }
 
     /// Cheap check: true implies that the worker has no event; false says nothing.
@@ -125,23 +146,21 @@ impl Core {
     pub(crate) fn is_certainly_idle(&self, worker: u32) -> bool
         requires worker_in { worker < self.now.workers }
         ensures choice { IsTrue result
-            → choice (job_in self.now) (state_in self.now) worker ≡ None }
+            → choice (job_in_with B.work self.now) (state_in self.now) worker ≡ None }
         ensures spent { IsTrue result → self.now.spent ≡ false }
     {
         !self.spent && self.table.is_certainly_idle(&self.setting, worker)
     }
 
-    /// Performs the event of a worker's turn, if it has one. `work` is the value of the work that is due; without it,
-    /// the work is done here.
+    /// Performs the event of a worker's turn, if it has one. `work` is the value of the work that is due, if some is.
     #[inline(always)]
     pub(crate) fn advance(&mut self, worker: u32, work: Option<u64>) -> Result<Turn, AllocError>
         requires worker_in { worker < self.old.workers }
-        requires work { IfSome work (λ value. (steps : ℕ) → due_in self.old worker ≡ Some steps
-            → value ≡ spin_of steps) }
+        requires work { IsValueOf B.work (due_in self.old worker) work }
         ensures turn { IfOk result
-            (λ t. t ≡ moved_if (choice (job_in self.old) (state_in self.old) worker)) }
+            (λ t. t ≡ moved_if (choice (job_in_with B.work self.old) (state_in self.old) worker)) }
         ensures event { IfOk result
-            (λ t. IsTurnResult t (job_in self.old) (state_in self.old) worker (state_in self.new)) }
+            (λ t. IsTurnResult t (job_in_with B.work self.old) (state_in self.old) worker (state_in self.new)) }
         ensures failed { IfErr result (λ _. self.new.spent ≡ true) }
         ensures spent { IfOk result (λ _. (self.old.spent ≡ false) × (self.new.spent ≡ false)) }
         ensures job { (self.new.job ≡ self.old.job)
@@ -153,7 +172,7 @@ impl Core {
         let Some(event) = self.choice(worker, work) else {
             return Ok(Turn::Idle);
         };
-        match self.table.apply(self.alloc, &self.setting, worker, event) {
+        match self.table.apply::<B>(self.alloc, &self.setting, worker, event) {
             Ok(()) => Ok(Turn::Moved),
             Err(error) => {
                 self.spent = true;
@@ -167,15 +186,15 @@ impl Core {
     /// an `Err` the core is spent, and each later turn is an `Err`.
     ///
     /// Memory: at most one node in a list, or one batch.
-    pub fn turn(&mut self, worker: u32, spun: Option<Spun>) -> Result<Turn, AllocError>
+    pub fn turn(&mut self, worker: u32, spun: Option<SpunWith<B>>) -> Result<Turn, AllocError>
         requires worker_in { worker < self.old.workers }
         requires work { IfSome spun (λ s. (steps : ℕ) → due_in self.old worker ≡ Some steps
             → s ≡ steps) }
         ensures turn { IfOk result (λ t. t
             ≡ turn_answer (due_in self.old worker) spun
-            (choice (job_in self.old) (state_in self.old) worker)) }
+            (choice (job_in_with B.work self.old) (state_in self.old) worker)) }
         ensures event { IfOk result
-            (λ t. IsTurnResult t (job_in self.old) (state_in self.old) worker (state_in self.new)) }
+            (λ t. IsTurnResult t (job_in_with B.work self.old) (state_in self.old) worker (state_in self.new)) }
         ensures failed { IfErr result (λ _. self.new.spent ≡ true) }
         ensures spent { IfOk result (λ _. (self.old.spent ≡ false) × (self.new.spent ≡ false)) }
         ensures job { (self.new.job ≡ self.old.job)
@@ -227,8 +246,8 @@ impl Core {
     /// For proofs only: it does nothing.
     pub fn stands(&self)
         ensures invariant { self.now.spent ≡ false
-            → Invariant (job_in self.now) (state_in self.now) }
-        ensures sources { self.now.spent ≡ false → HasSources (job_in self.now) }
+            → Invariant (job_in_with B.work self.now) (state_in self.now) }
+        ensures sources { self.now.spent ≡ false → HasSources (job_in_with B.work self.now) }
     {
         self.invariant_holds();
     }
@@ -236,7 +255,7 @@ impl Core {
     /// The invariant of the stored state, for a core that is not spent. For proofs only: it does nothing.
     pub(crate) fn invariant_holds(&self)
         ensures { self.now.spent ≡ false
-            → RepInvariant self.now.job self.now.workers self.now.table }
+            → RepInvariant B.work self.now.job self.now.workers self.now.table }
     {
         let _ = &self.spent;
     }
@@ -272,7 +291,7 @@ impl Core {
         ensures leaves { IfOk result (λ rows. map (λ row. row.leaf) rows.items
             ≡ range_with_len 0 (leaves (job_tree self.now.job))) }
         ensures rows { IfOk result (λ rows. AllByRecursion
-            (IsRowOf (job_in self.now) (state_in self.now).state) rows.items) }
+            (IsRowOf (job_in_with B.work self.now) (state_in self.now).state) rows.items) }
     {
         plan_stands_for_tree();
         done_leaves_have_run();
@@ -290,10 +309,9 @@ impl Core {
     pub fn report(self, alloc: Global) -> Result<Report, AllocError>
         requires { is_over_in self ≡ true }
         ensures report { IfOk result
-            (λ report. IsReportOf (job_in self) (leaves (job_tree self.job)) (state_in self).state report) }
+            (λ report. IsReportOf (job_in_with B.work self) (leaves (job_tree self.job)) (state_in self).state report) }
         ensures lawful { IfOk result
-            (λ report. Lawful self.job
-            self.workers report) }
+            (λ report. LawfulWith B.work self.job self.workers report) }
     {
         plan_stands_for_tree();
         done_report_is_lawful();

@@ -1,51 +1,70 @@
 //! Work done outside the core.
-ghost use Rattle.std.specs.Prelude.{◌≡◌};
-ghost use Rattle.seq_objects.specs.Spin.{spin_of};
+ghost use Rattle.std.specs.Prelude.{◌≡◌, IfOk};
 
+use leaf_work::{LeafWork, Spin, WorkBrand};
 use seq_objects::work::spin;
-use std::marker::Model;
+use std::alloc::{AllocError, Global};
+use std::marker::{Model, PhantomData};
 
-/// Work done: a number of steps and their result. Contracts see the number of steps.
+/// Work done: the number of a leaf of work, and its value. `B` says what the leaves compute. Contracts see the number.
 #[derive(Drop)]
-pub struct Spun {
+pub struct SpunWith<B: WorkBrand> {
     steps: u32,
     gives: u32,
+    of: PhantomData<B>,
 }
 
-impl Model for Spun {
+/// Work done of leaves that spin: a number of steps, and their value.
+pub type Spun = SpunWith<Spin>;
+
+impl<B: WorkBrand> Model for SpunWith<B> {
     ghost use Rattle.std.specs.Prelude.{ℕ, ◌≡◌};
-    ghost use Rattle.seq_objects.specs.Spin.{spin_of};
 
     ghost Value = { ℕ };
 
     ghost view = { λ s. s.steps };
 
-    ghost invariant = { λ s. s.gives ≡ spin_of s.steps };
+    ghost invariant = { λ s. s.gives ≡ B.work s.steps };
 }
 
-impl Spun {
+impl SpunWith<Spin> {
     /// Does `n` steps of work, in time proportional to `n`.
     ///
     /// Memory: none.
     pub fn of(n: u32) -> Spun
         ensures { result ≡ n }
     {
-        Spun {
+        SpunWith {
             steps: n,
             gives: spin(n),
+            of: PhantomData,
         }
     }
+}
 
-    /// The number of steps done.
+impl<B: WorkBrand> SpunWith<B> {
+    /// Does the work of the leaf with the number `n`.
+    pub fn by<W: LeafWork>(alloc: Global, work: &W, n: u32) -> Result<SpunWith<B>, AllocError>
+        requires { W.meaning work.now ≡ B.work }
+        ensures { IfOk result (λ spun. spun ≡ n) }
+    {
+        Ok(SpunWith {
+            steps: n,
+            gives: work.run(alloc, n)?,
+            of: PhantomData,
+        })
+    }
+
+    /// The number of the leaf; of a leaf that spins it is the number of its steps.
     pub fn number(&self) -> u32
         ensures { result ≡ self.now }
     {
         self.steps
     }
 
-    /// The value of the steps.
+    /// The value of the leaf.
     pub(crate) fn value(&self) -> u64
-        ensures { result ≡ spin_of self.now }
+        ensures { result ≡ B.work self.now }
     {
         u64::from(self.gives)
     }

@@ -15,6 +15,7 @@ use crate::scheduler::Core;
 use crate::turn::Turn;
 use batch_history::Report;
 use core_model::laws::stopped::idle_stopped_workers_cost_nothing;
+use leaf_work::Spin;
 use sp_order::laws::plan_stands_for_tree;
 use std::alloc::{AllocError, Global};
 
@@ -41,7 +42,8 @@ fn try_turn(core: &mut Core, worker: u32) -> Result<bool, AllocError>
     if core.is_certainly_idle(worker) {
         return Ok(false);
     }
-    match core.advance(worker, None)? {
+    let value = core.do_due(worker, &Spin)?;
+    match core.advance(worker, value)? {
         Turn::Moved => Ok(true),
         _ => Ok(false),
     }

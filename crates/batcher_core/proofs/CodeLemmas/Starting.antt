@@ -1,6 +1,6 @@
 -- The opening state of a job satisfies the core's invariant.
 use Rattle.std.proofs.Common.{ℕ, ◌≡◌, ◌<◌, ◌≤◌, Some, length, ap, refl, sym, subst, ◌∙◌}
-use Rattle.core_model.proofs.Words.{Tree, leaves, IsPlan, IsPlanOf, core_job}
+use Rattle.core_model.proofs.Words.{Tree, leaves, IsPlan, IsPlanOf, core_job_with}
 use Rattle.sp_order.specs.Jobs.{JobValue, IsJob, job_tree}
 use Rattle.sp_order.specs.Precedence.{leaf_count}
 use Rattle.sp_order.specs.Preorder.{nodes_of}
@@ -23,10 +23,10 @@ pub shown_opening : (t : StoredState) → state_of t ≡ opening_state → ready
 unfolding opening_core
 shown_opening t state ready = rw (state, ready) refl
 
-pub opening_fits : (job : JobValue) (workers : ℕ) (t : StoredState) → 0 < workers → workers ≤ 32 → IsJob job → job.shape ≡ Some (job_tree job)
-    → IsPlanOf (nodes_of (job_tree job)) (job_tree job) → IsPlan (nodes_of (job_tree job)) → HasSources (core_job job workers) → (nodes_of (job_tree job)).count < 40000
-    → HasShop t → Sizes t (nodes_of (job_tree job)).count workers → state_of t ≡ opening_state → ready_of t ≡ opening_core.ready → RepInvariant job workers t
-opening_fits job workers t some few is shape stands laws sources most shop sizes state lists =
+pub opening_fits : (work : ℕ → ℕ) (job : JobValue) (workers : ℕ) (t : StoredState) → 0 < workers → workers ≤ 32 → IsJob job → job.shape ≡ Some (job_tree job)
+    → IsPlanOf (nodes_of (job_tree job)) (job_tree job) → IsPlan (nodes_of (job_tree job)) → HasSources (core_job_with work job workers) → (nodes_of (job_tree job)).count < 40000
+    → HasShop t → Sizes t (nodes_of (job_tree job)).count workers → state_of t ≡ opening_state → ready_of t ≡ opening_core.ready → RepInvariant work job workers t
+opening_fits work job workers t some few is shape stands laws sources most shop sizes state lists =
     let tree = job_tree job in
     let all : leaves tree ≡ length job.acts = sym (ap leaf_count shape) ∙ is.leaves in
     record {
@@ -37,11 +37,11 @@ opening_fits job workers t some few is shape stands laws sources most shop sizes
       most = most;
       leaves = all;
       leaves_in = leaves_in (nodes_of tree) tree (length job.acts) stands all;
-      calls_in = calls_in job workers stands (sym all);
+      calls_in = calls_in work job workers stands (sym all);
       sources = sources;
       sizes = sizes;
       few_acts = is.most;
       shop = shop;
-      inv = subst (Invariant (core_job job workers)) (sym (shown_opening t state lists))
-          (opening_invariant (core_job job workers) laws (has_root (nodes_of tree) tree stands) some);
+      inv = subst (Invariant (core_job_with work job workers)) (sym (shown_opening t state lists))
+          (opening_invariant (core_job_with work job workers) laws (has_root (nodes_of tree) tree stands) some);
     }

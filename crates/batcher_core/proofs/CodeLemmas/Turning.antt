@@ -1,7 +1,7 @@
 -- A turn preserves the core's invariant, and its result states its effect.
 use Rattle.std.proofs.Common.{ℕ, ◌≡◌, ◌<◌, Some, None, refl, ◌∙◌}
 use Rattle.sp_order.specs.Jobs.{JobValue, job_tree}
-use Rattle.core_model.proofs.Words.{core_job}
+use Rattle.core_model.proofs.Words.{core_job_with}
 use Rattle.core_state.specs.Words.{Event}
 use Rattle.sp_order.specs.Preorder.{nodes_of}
 use Rattle.core_state.specs.declared.state.State.{State as StoredState}
@@ -29,14 +29,14 @@ sizes_kept old new nodes workers h same = record {
   ready_len = same.ready_same ∙ h.ready_len;
 }
 
-module _ (job : JobValue) (workers : ℕ) (old new : StoredState) (w : ℕ) (event : Event) (h : RepInvariant job workers old) (below : w < workers)
-    (chosen : choice (core_job job workers) (core_state_of old) w ≡ Some event) (does : Does (core_job job workers) (state_of old) w event (state_of new))
+module _ {work : ℕ → ℕ} (job : JobValue) (workers : ℕ) (old new : StoredState) (w : ℕ) (event : Event) (h : RepInvariant work job workers old) (below : w < workers)
+    (chosen : choice (core_job_with work job workers) (core_state_of old) w ≡ Some event) (does : Does (core_job_with work job workers) (state_of old) w event (state_of new))
     (lists : ready_of new ≡ ready_after w event (ready_of old)) where
-  happens : Happens (core_job job workers) (state_of old) w event (state_of new)
+  happens : Happens (core_job_with work job workers) (state_of old) w event (state_of new)
   happens = record { worker_in = below; needs = chosen_needs job workers old w h below event chosen; does = does }
 
   -- after the chosen event the stored state satisfies its invariant
-  pub fits_after : SameSizes old new → RepInvariant job workers new
+  pub fits_after : SameSizes old new → RepInvariant work job workers new
   fits_after same = record {
     some = h.some;
     few = h.few;
@@ -50,17 +50,17 @@ module _ (job : JobValue) (workers : ℕ) (old new : StoredState) (w : ℕ) (eve
     sizes = sizes_kept old new (nodes_of (job_tree job)).count workers h.sizes same;
     few_acts = h.few_acts;
     shop = same.shop_same h.shop;
-    inv = event_keeps_all (core_job job workers) (core_state_of old) (core_state_of new) w event h.laws h.inv
+    inv = event_keeps_all (core_job_with work job workers) (core_state_of old) (core_state_of new) w event h.laws h.inv
         (record { happens = happens; lists = lists });
   }
 
   -- an event was chosen and has happened
-  pub makes_event : IsTurnResult Moved (core_job job workers) (core_state_of old) w (core_state_of new)
+  pub makes_event : IsTurnResult Moved (core_job_with work job workers) (core_state_of old) w (core_state_of new)
   makes_event = (event, chosen, record { happens = happens; lists = lists })
 
 -- none was chosen, and none can happen
-pub makes_none : (job : JobValue) (workers : ℕ) (old : StoredState) (w : ℕ)
-    → RepInvariant job workers old → w < workers → choice (core_job job workers) (core_state_of old) w ≡ None
-    → IsTurnResult Idle (core_job job workers) (core_state_of old) w (core_state_of old)
-makes_none job workers old w h below none =
-    (refl, λ event next is. none_has_no_event (core_job job workers) (core_state_of old) w h.laws below (kept_parts job workers old h) h.inv.lists none event is.happens.needs)
+pub makes_none : {work : ℕ → ℕ} (job : JobValue) (workers : ℕ) (old : StoredState) (w : ℕ)
+    → RepInvariant work job workers old → w < workers → choice (core_job_with work job workers) (core_state_of old) w ≡ None
+    → IsTurnResult Idle (core_job_with work job workers) (core_state_of old) w (core_state_of old)
+makes_none {work} job workers old w h below none =
+    (refl, λ event next is. none_has_no_event (core_job_with work job workers) (core_state_of old) w h.laws below (kept_parts job workers old h) h.inv.lists none event is.happens.needs)

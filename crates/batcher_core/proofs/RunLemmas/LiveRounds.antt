@@ -7,7 +7,7 @@ use Rattle.core_model.proofs.Words.{IsPlan, CoreJob, CoreState, is_done}
 use Rattle.core_state.specs.Words.{Event}
 use Rattle.core_model.specs.Choice.{choice}
 use Rattle.core_state.specs.Code.Representation.{RepInvariant}
-use Rattle.batcher_core.specs.Cores.{CoreView, job_in, state_in, is_over_in}
+use Rattle.batcher_core.specs.Cores.{CoreView, job_in_with, state_in, is_over_in}
 use Rattle.core_model.specs.Invariant.{Invariant}
 use Rattle.core_model.specs.Measure.{measure}
 use Rattle.core_model.specs.Runs.{IsTurnOf, IsTurn}
@@ -22,18 +22,18 @@ pub round_end : (workers i : ℕ) → 0 < workers → i ≡ workers → i % work
 round_end workers i some end = ap (λ (n : ℕ). n % workers) (end ∙ sym (zero-add workers)) ∙ (add-mod_right 0 workers ∙ mod-eq_of_lt some)
 
 -- the turn of worker `i` of the round, or its being passed over
-module _ (first core next : CoreView) (live : ℕ → Bool) (same : SameJob first core) (more : is_over_in core ≡ false) (unspent : core.spent ≡ false) (i : ℕ) (below : i < first.workers) where
+module _ {work : ℕ → ℕ} (first core next : CoreView) (live : ℕ → Bool) (same : SameJob first core) (more : is_over_in core ≡ false) (unspent : core.spent ≡ false) (i : ℕ) (below : i < first.workers) where
   at_worker : i % first.workers ≡ i
   at_worker = mod-eq_of_lt below
 
-  pub turn_before : live i ≡ true → IsTurn (job_in core) (state_in core) i (state_in next)
-      → (last : CoreState) → LiveDrive (job_in first) live (state_in next) ((i + 1) % first.workers) last → LiveDrive (job_in first) live (state_in core) (i % first.workers) last
+  pub turn_before : live i ≡ true → IsTurn (job_in_with work core) (state_in core) i (state_in next)
+      → (last : CoreState) → LiveDrive (job_in_with work first) live (state_in next) ((i + 1) % first.workers) last → LiveDrive (job_in_with work first) live (state_in core) (i % first.workers) last
   turn_before on turn last drives =
       rw at_worker
-      (by_live (goes_on _ _ more unspent) on (subst (λ (job : CoreJob). IsTurn job (state_in core) i (state_in next)) (job_same first core same) turn) drives)
+      (by_live (goes_on _ _ more unspent) on (subst (λ (job : CoreJob). IsTurn job (state_in core) i (state_in next)) (job_same work first core same) turn) drives)
 
   pub passed_before : live i ≡ false
-      → (last : CoreState) → LiveDrive (job_in first) live (state_in core) ((i + 1) % first.workers) last → LiveDrive (job_in first) live (state_in core) (i % first.workers) last
+      → (last : CoreState) → LiveDrive (job_in_with work first) live (state_in core) ((i + 1) % first.workers) last → LiveDrive (job_in_with work first) live (state_in core) (i % first.workers) last
   passed_before off last drives = rw at_worker (past_stopped (goes_on _ _ more unspent) off drives)
 
 -- what a turn does to the measure, by whether it made an event
@@ -70,12 +70,12 @@ none_live job live s laws h rest w on event next step =
     none_has_no_event job s w laws among (parts_carried job s.state h.parts) h.lists (rest w among on) event step.happens.needs
 
 -- the whole round, without an event
-pub round_rests : (first core : CoreView) (live : ℕ → Bool) (i : ℕ) → SameJob first core → RepInvariant core.job core.workers core.table → i ≡ first.workers
-    → RestBelow (job_in first) live (state_in core) i → NoLiveEvent (job_in first) live (state_in core)
-round_rests first core live i same fits end rest =
-    let job = job_same first core same in
-    none_live (job_in first) live (state_in core) (subst (λ (j : CoreJob). IsPlan j.plan) job fits.laws) (subst (λ (j : CoreJob). Invariant j (state_in core)) job fits.inv)
-    (subst (RestBelow (job_in first) live (state_in core)) end rest)
+pub round_rests : {work : ℕ → ℕ} (first core : CoreView) (live : ℕ → Bool) (i : ℕ) → SameJob first core → RepInvariant work core.job core.workers core.table → i ≡ first.workers
+    → RestBelow (job_in_with work first) live (state_in core) i → NoLiveEvent (job_in_with work first) live (state_in core)
+round_rests {work} first core live i same fits end rest =
+    let job = job_same work first core same in
+    none_live (job_in_with work first) live (state_in core) (subst (λ (j : CoreJob). IsPlan j.plan) job fits.laws) (subst (λ (j : CoreJob). Invariant j (state_in core)) job fits.inv)
+    (subst (RestBelow (job_in_with work first) live (state_in core)) end rest)
 
 -- one more stopped worker is passed over
 pub rests_past : (job : CoreJob) (live : ℕ → Bool) (s : CoreState) (i : ℕ) → live i ≡ false → RestBelow job live s i → RestBelow job live s (i + 1)
@@ -91,22 +91,22 @@ lowers_both false true a b c h g = (let low = h.0 in let then' = g.0 in omega (a
 lowers_both false false a b c h g = (let low = h.0 in let then' = g.0 in omega (arith, low, then'), λ e. absurd cc)
 
 -- the turn of worker i, after those before it in the round
-module _ (first core next : CoreView) (live : ℕ → Bool) (i : ℕ) (same : SameJob first core) (fits : RepInvariant core.job core.workers core.table) (below : i < core.workers)
-    (turn : IsTurn (job_in core) (state_in core) i (state_in next)) (moved : Bool) (is : moved ≡ is_some (choice (job_in core) (state_in core) i)) (before : Bool) where
-  pub lowers_after : Lowers (job_in first) (state_in first) (state_in core) before → Lowers (job_in first) (state_in first) (state_in next) (before || moved)
+module _ {work : ℕ → ℕ} (first core next : CoreView) (live : ℕ → Bool) (i : ℕ) (same : SameJob first core) (fits : RepInvariant work core.job core.workers core.table) (below : i < core.workers)
+    (turn : IsTurn (job_in_with work core) (state_in core) i (state_in next)) (moved : Bool) (is : moved ≡ is_some (choice (job_in_with work core) (state_in core) i)) (before : Bool) where
+  pub lowers_after : Lowers (job_in_with work first) (state_in first) (state_in core) before → Lowers (job_in_with work first) (state_in first) (state_in next) (before || moved)
   lowers_after h =
-      let this = turn_lowers_or_not (job_in core) (state_in core) (state_in next) i fits.laws below fits.inv turn moved is in
-      let mine : Lowers (job_in first) (state_in core) (state_in next) moved = subst (λ (j : CoreJob). Lowers j (state_in core) (state_in next) moved) (job_same first core same) this in
-      lowers_both before moved (measure (job_in first) (state_in first).state) (measure (job_in first) (state_in core).state) (measure (job_in first) (state_in next).state) h mine
+      let this = turn_lowers_or_not (job_in_with work core) (state_in core) (state_in next) i fits.laws below fits.inv turn moved is in
+      let mine : Lowers (job_in_with work first) (state_in core) (state_in next) moved = subst (λ (j : CoreJob). Lowers j (state_in core) (state_in next) moved) (job_same work first core same) this in
+      lowers_both before moved (measure (job_in_with work first) (state_in first).state) (measure (job_in_with work first) (state_in core).state) (measure (job_in_with work first) (state_in next).state) h mine
 
-  pub rests_after : (before ≡ false → RestBelow (job_in first) live (state_in core) i) → (before || moved) ≡ false → RestBelow (job_in first) live (state_in next) (i + 1)
+  pub rests_after : (before ≡ false → RestBelow (job_in_with work first) live (state_in core) i) → (before || moved) ≡ false → RestBelow (job_in_with work first) live (state_in next) (i + 1)
   rests_after rest none v among on =
       let both = or_parts before moved none in
-      let this = turn_rests (job_in core) (state_in core) (state_in next) i turn moved is both.1 in
-      let mine : choice (job_in first) (state_in core) i ≡ None = subst (λ (j : CoreJob). choice j (state_in core) i ≡ None) (job_same first core same) this.0 in
-      subst (λ (s : CoreState). choice (job_in first) s v ≡ None) (sym this.1)
+      let this = turn_rests (job_in_with work core) (state_in core) (state_in next) i turn moved is both.1 in
+      let mine : choice (job_in_with work first) (state_in core) i ≡ None = subst (λ (j : CoreJob). choice j (state_in core) i ≡ None) (job_same work first core same) this.0 in
+      subst (λ (s : CoreState). choice (job_in_with work first) s v ≡ None) (sym this.1)
       (elim (cases_eq v i) [
-        | inl here ↦ ap (choice (job_in first) (state_in core)) here ∙ mine
+        | inl here ↦ ap (choice (job_in_with work first) (state_in core)) here ∙ mine
         | inr other ↦ rest both.0 v (omega (arith, among, other)) on
       ])
 

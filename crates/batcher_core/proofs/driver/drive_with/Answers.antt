@@ -2,7 +2,7 @@ use Rattle.std.proofs.Common.{rules, ℕ, List, Result, Ok, Err, IfOk}
 use Rattle.batch_history.specs.declared.report.Report.{Report}
 use Rattle.core_model.specs.State.{CoreJob, CoreState}
 use Rattle.core_model.specs.Reports.{IsDrivenFrom, IsRunFrom}
-use Rattle.batcher_core.proofs.driver.drive.Goals as goal
+use Rattle.batcher_core.proofs.driver.drive_with.Goals as goal
 
 -- the report of a run by turns is that of a run of the model
 run_of_driven : {E : Type 0} (made : Result Report E) (job : CoreJob) (leaf_total : ℕ) (first : CoreState) (schedule : List ℕ)
@@ -12,8 +12,8 @@ run_of_driven (Ok report) job leaf_total first schedule is_run driven = is_run r
 run_of_driven (Err e) job leaf_total first schedule is_run driven = tt
 
 pub returns-clause-driven : goal.returns-clause-driven
-returns-clause-driven c = search rules
+returns-clause-driven g c = search rules
 
 pub returns-clause-run : goal.returns-clause-run
-returns-clause-run c =
-    run_of_driven c.report.result _ _ _ c.args.schedule.now (c.driven_report_is_of_a_run.ensures.from _ _ _ c.args.schedule.now) (returns-clause-driven c)
+returns-clause-run g c =
+    run_of_driven c.report.result _ _ _ c.args.schedule.now (c.driven_report_is_of_a_run.ensures.from _ _ _ c.args.schedule.now) (returns-clause-driven g c)

@@ -1,16 +1,16 @@
 use Rattle.std.proofs.Common.{sym, ◌∙◌}
 use Rattle.core_state.proofs.ChoiceLemmas.Allowed.{chosen_in_range, chosen_needs, chosen_at_end}
 use Rattle.batcher_core.proofs.CodeLemmas.Turning.{fits_after, makes_event, makes_none}
-use Rattle.batcher_core.proofs.scheduler.Core.advance.Goals as goal
+use Rattle.batcher_core.proofs.scheduler.CoreWith.advance.Goals as goal
 
 pub returns-in_default-clause-event : goal.returns-in_default-clause-event
-returns-in_default-clause-event c =
+returns-in_default-clause-event g c =
     let below = rw (← c.self.view_is) at c.requires.worker_in in
     let none = rw (← c.self.view_is) at (sym c.choice.ensures ∙ c.in_default.is) in
     rw (← c.self.view_is) (makes_none c.self.inside.setting.job c.self.inside.setting.workers c.self.inside.table c.args.worker (c.self.invariant.1 c.if-self.false) below none)
 
 pub apply-requires : goal.apply-requires
-apply-requires c =
+apply-requires g c =
     let below = rw (← c.self.view_is) at c.requires.worker_in in
     let chosen = rw (← c.self.view_is) at (sym c.choice.ensures ∙ c.in-Some.is) in
     let fits = c.self.invariant.1 c.if-self.false in
@@ -23,7 +23,7 @@ apply-requires c =
     }
 
 pub invariant_of-self : goal.invariant_of-self
-invariant_of-self c =
+invariant_of-self g c =
     let below = rw (← c.self.view_is) at c.requires.worker_in in
     let chosen = rw (← c.self.view_is) at (sym c.choice.ensures ∙ c.in-Some.is) in (
       c.self.invariant.0,
@@ -32,7 +32,7 @@ invariant_of-self c =
     )
 
 pub returns-in-Ok-clause-event : goal.returns-in-Ok-clause-event
-returns-in-Ok-clause-event c =
+returns-in-Ok-clause-event g c =
     let below = rw (← c.self.view_is) at c.requires.worker_in in
     let chosen = rw (← c.self.view_is) at (sym c.choice.ensures ∙ c.in-Some.is) in
     rw (← c.self.view_is) (makes_event _ _ _ c.apply.new.self c.args.worker c.in-Some.event (c.self.invariant.1 c.if-self.false) below chosen

@@ -1,4 +1,4 @@
 pub mod Last
-pub mod Lists
+pub mod Rows
 pub mod CallCounts
 pub mod Standing

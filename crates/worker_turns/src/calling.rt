@@ -2,7 +2,7 @@
 ghost use Rattle.std.specs.Prelude.{ℕ, ◌≡◌, ◌≤◌, ◌<◌, ◌+◌, Some, [], IfOk, IfErr};
 ghost use Rattle.core_model.specs.declared.next.Next.TheVariants as acts;
 ghost use Rattle.core_model.specs.Operations.{op_of};
-ghost use Rattle.core_table.specs.Passes.{IsPassOf, job_in, next_in, pass_view};
+ghost use Rattle.core_table.specs.Passes.{IsNotTrapped, IsPassOf, job_in, next_in, pass_view};
 ghost use Rattle.worker_crew.specs.Words.{Got};
 ghost use Rattle.piece_board.specs.Boards.{desk_view};
 ghost use Rattle.two_deques.specs.Hands.{held};
@@ -26,6 +26,7 @@ use sp_order::with_value;
 use std::alloc::Global;
 use std::sync::Wait;
 use table_rule::OpRecord;
+use worker_crew::laws::workers_that_are_not_trapped_are_free;
 use worker_crew::{Crew, Me, Stop};
 
 /// The receipt of a call, and the number of batches published at a look just after the post.
@@ -133,7 +134,7 @@ pub fn call<G: Pause, R: Wait>(
     leaf: u32,
 ) -> Result<Called, Stop>
     requires me { IsMeOf crew.now me.old }
-    requires free_pass { IsFree (pass_view me.old.pass) }
+    requires free_pass { IsNotTrapped me.old.pass }
     requires due { IsCallDue leaf (next_in crew.now.table (pass_view me.old.pass)) }
     requires free { (desk_view me.old.desk).posted ≡ [] }
     ensures pass { IsPassOf crew.now.table me.new.pass }
@@ -155,6 +156,7 @@ pub fn call<G: Pause, R: Wait>(
     ensures helps { IfOk result (λ _. Helps (desk_view me.old.desk) (desk_view me.new.desk)) }
     ensures stopped { IfErr result (λ stop. IsStop stop (pass_view me.old.pass) (pass_view me.new.pass)) }
 {
+    workers_that_are_not_trapped_are_free(&crew.table, &me.pass);
     let op = op_in_act(&crew.table, &me.pass, leaf);
     make_call(rt, alloc, crew, me, leaf, op)
 }

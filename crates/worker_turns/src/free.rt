@@ -1,6 +1,6 @@
 //! The turn of a free worker.
 ghost use Rattle.std.specs.Prelude.{◌≡◌, ◌<◌, [], IfOk, IfErr};
-ghost use Rattle.core_table.specs.Passes.{IsPassOf, job_in, pass_view};
+ghost use Rattle.core_table.specs.Passes.{IsNotTrapped, IsPassOf, pass_view};
 ghost use Rattle.worker_crew.specs.Words.{Idle};
 ghost use Rattle.piece_board.specs.Boards.{desk_view};
 ghost use Rattle.worker_crew.specs.declared.crew.Stop.TheVariants.{Memory};
@@ -17,6 +17,7 @@ use run_points::Pause;
 use std::alloc::Global;
 use std::sync::Wait;
 use two_deques::Deck;
+use worker_crew::laws::workers_that_are_not_trapped_are_free;
 use worker_crew::{Crew, Me, Stop};
 
 /// The outcome of a free worker's turn.
@@ -102,7 +103,7 @@ pub fn free_turn<G: Pause, R: Wait>(
     me: &mut Me,
 ) -> Result<Did, Stop>
     requires me { IsMeOf crew.now me.old }
-    requires free_pass { IsFree (pass_view me.old.pass) }
+    requires free_pass { IsNotTrapped me.old.pass }
     requires idle { (pass_view me.old.pass).task ≡ Idle }
     requires free { (desk_view me.old.desk).posted ≡ [] }
     ensures pass { IsPassOf crew.now.table me.new.pass }
@@ -114,6 +115,7 @@ pub fn free_turn<G: Pause, R: Wait>(
     ensures free { IfOk result (λ _. (desk_view me.new.desk).posted ≡ []) }
     ensures stopped { IfErr result (λ stop. IsStop stop (pass_view me.old.pass) (pass_view me.new.pass)) }
 {
+    workers_that_are_not_trapped_are_free(&crew.table, &me.pass);
     if crew.table.stopped(&mut me.pass) {
         return Err(Stop::Stopped);
     }

@@ -5,13 +5,14 @@ use mathlib.Core.Option.{some}
 use lib.ListN.{get_elem?}
 use Rattle.core_model.specs.declared.event.Event.{Event}
 use Rattle.core_model.specs.State.{CoreJob}
+use Rattle.seq_objects.proofs.Elements.{each_so}
 use Rattle.table_rule.specs.declared.view.Miss.{Miss}
 use Rattle.table_rule.specs.declared.view.View.{View}
 use Rattle.table_rule.specs.Words.{stop_at}
 use Rattle.table_rule.specs.Shows.{TableState, IsTrueIn, Shows}
 use Rattle.table_rule.specs.Moments.{IsMomentOf, IsMissAt}
 use Rattle.table_rule.specs.Tasks.{job_seen}
-use Rattle.table_rule.proofs.TableLemmas.Traces.{IsNoted, all_of, true_now, within_trace}
+use Rattle.table_rule.proofs.TableLemmas.Traces.{IsNoted, true_now, within_trace}
 
 -- the miss of a look at the word at `place`, by a pass of view v
 abbrev pub miss_of : (job : CoreJob) (room : ℕ) (t : TableState) → Shows job room t → View → ℕ → Miss
@@ -20,7 +21,7 @@ miss_of job room t o v place = record { word = place; found = get_or t.words pla
 -- no miss of a view is after the end of the trace
 pub all_before : (job : CoreJob) (room : ℕ) (t : TableState) (o : Shows job room t) (id k : ℕ) (v : View) → get_elem? t.views id ≡ some v → v.own.worker ≤ k → k + 1 ≤ v.to
     → AllByRecursion (λ (m : Miss). m.moment ≤ length o.trace) v.misses
-all_before job room t o id k v me low high = all_of (IsTrueIn job k o.trace) (λ (m : Miss). m.moment ≤ length o.trace) (λ m h. within_trace job k o.trace m h) v.misses (o.misses id v k me low (omega arith)).0
+all_before job room t o id k v me low high = each_so (IsTrueIn job k o.trace) (λ (m : Miss). m.moment ≤ length o.trace) (λ m h. within_trace job k o.trace m h) v.misses (o.misses id v k me low (omega arith)).0
 
 module _ (job : CoreJob) (room : ℕ) (t : TableState) (o : Shows job room t) (id k : ℕ) (v : View) (me : get_elem? t.views id ≡ some v) (from : v.own.worker ≡ k) (to : v.to ≡ k + 1) where
   now_true : (place : ℕ) → IsTrueIn job k o.trace (miss_of job room t o v place)

@@ -24,6 +24,7 @@ use Rattle.core_model.specs.Events.{Happens}
 use Rattle.core_model.specs.Tasks.{is_done}
 use Rattle.core_model.specs.Invariant.{Parts}
 use Rattle.core_model.specs.Waits.{task_place}
+use Rattle.seq_objects.proofs.Elements.{each_so}
 use Rattle.table_rule.specs.declared.slot.OpRecord.{OpRecord}
 use Rattle.seq_objects.specs.declared.call.Call.{Call}
 use Rattle.table_rule.specs.declared.view.HoldView.{HoldView}
@@ -40,7 +41,7 @@ use Rattle.table_rule.specs.Shows.{TableState, HasSeat, IsRecordOf, RecordAt, Sl
 use Rattle.table_rule.proofs.TableLemmas.Facts.{is_free, is_trapped, not_taken}
 use Rattle.core_model.specs.Lists.{ready_after}
 use Rattle.table_rule.specs.Words.{stop_at}
-use Rattle.table_rule.proofs.TableLemmas.Traces.{AddsEvent, IsNoted, all_of, true_longer, misses_kept, reached_next, agree_next, agree_still, stop_still}
+use Rattle.table_rule.proofs.TableLemmas.Traces.{AddsEvent, IsNoted, true_longer, misses_kept, reached_next, agree_next, agree_still, stop_still}
 use Rattle.table_rule.proofs.TableLemmas.Through.{told_kept}
 use Rattle.core_model.proofs.InvariantLemmas.Puts.{put_at, put_other}
 
@@ -108,7 +109,7 @@ moved job room laws t o id k v w words homes event new happens me from to from' 
     stop = let word = get_or t.words (stop_at job.workers) 0 in
         stop_still (stop_at job.workers) t.views id v w word (get_or words (stop_at job.workers) 0) more me (at_below t.views id v me) (omega arith) (omega arith) stop adds.stops
         (λ some_found. inl (let a = adds.found in omega arith)) adds.misses adds.stopped
-        (all_of (IsNoted job k o.trace word) (λ (m : Miss). m.word ≡ stop_at job.workers → (m.found ≡ 0) × (word ≡ 0)) (λ m h. h.stop) more noted) o.stop;
+        (each_so (IsNoted job k o.trace word) (λ (m : Miss). m.word ≡ stop_at job.workers → (m.found ≡ 0) × (word ≡ 0)) (λ m h. h.stop) more noted) o.stop;
   },
   happens,
 )
@@ -168,7 +169,7 @@ looked job room t o id k j v w me from to from' to' events stops found more are 
     renewed job room t o id k v w (set t.words j (get_or t.words j 0)) me from to from' to' events
     (misses_kept job t.views id k v w o.trace o.trace more word me from to from' to' are noted (λ x m h. h) o.misses)
     (stop_still (stop_at job.workers) t.views id v w word _ more me (at_below t.views id v me) (omega arith) (omega arith) (ap (λ (ws : List ℕ). get_or ws (stop_at job.workers) 0) (set-get_or t.words j 0)) stops found are stopped
-    (all_of (IsNoted job k o.trace word) (λ (m : Miss). m.word ≡ stop_at job.workers → (m.found ≡ 0) × (word ≡ 0)) (λ m h. h.stop) more noted) o.stop)
+    (each_so (IsNoted job k o.trace word) (λ (m : Miss). m.word ≡ stop_at job.workers → (m.found ≡ 0) × (word ≡ 0)) (λ m h. h.stop) more noted) o.stop)
     (subst (λ (ws : List ℕ). WordsShow job.workers job.plan.count ws o.state.node o.state.mark o.state.value o.state.status o.state.hold o.state.tick (length o.state.book)) (sym (set-get_or t.words j 0)) o.words)
     own
 

@@ -7,6 +7,7 @@ use Rattle.std.proofs.lemmas.Bool.{cases_eq}
 use mathlib.Core.Option.{some, some-injective}
 use lib.ListN.{get_elem?}
 use Rattle.atomic_table.proofs.Lists.{at_set, set_here, set_else}
+use Rattle.seq_objects.proofs.Elements.{each_append, each_so}
 use Rattle.core_model.specs.declared.event.Event.{Event}
 use Rattle.core_model.specs.Events.{Happens}
 use Rattle.core_model.specs.Lists.{ready_after}
@@ -75,14 +76,6 @@ agree_still views id k v w steps me from to from' to' events old i u x e lo hi =
     (λ q. old i u x q.1 lo hi)
     (at_set views id i w u e)
 
-pub all_of : (P Q : Miss → Type 0) → ((m : Miss) → P m → Q m) → (l : List Miss) → AllByRecursion P l → AllByRecursion Q l
-all_of P Q f [] h = tt
-all_of P Q f (m ∷ l) h = (f m h.0, all_of P Q f l h.1)
-
-both_lists : (P : Miss → Type 0) (l m : List Miss) → AllByRecursion P l → AllByRecursion P m → AllByRecursion P (l ++ m)
-both_lists P [] m a b = b
-both_lists P (x ∷ l) m a b = (a.0, both_lists P l m a.1 b)
-
 -- a miss that was true at a moment of a trace was so too when the trace has gone on
 pub true_longer : (job : CoreJob) (w : ℕ) (trace : List Step) (step : Step) (m : Miss) → IsTrueIn job w trace m → IsTrueIn job w (trace ++ step ∷ []) m
 true_longer job w trace step m h = (h.0, h.1 ++ step ∷ [], ap (λ (l : List Step). l ++ step ∷ []) h.2 ∙ append_assoc h.0 h.1 (step ∷ []), h.3)
@@ -107,8 +100,8 @@ in_order : (job : CoreJob) (k : ℕ) (trace : List Step) (word : ℕ) (more l : 
 in_order job k trace word [] l noted trues order = order
 in_order job k trace word (m ∷ more) l noted trues order =
     let last = noted.0.last in (
-      all_of (IsTrueIn job k trace) (λ (e : Miss). e.moment ≤ m.moment) (λ e h. let low = within_trace job k trace e h in omega (arith, low, last)) (more ++ l)
-          (both_lists (IsTrueIn job k trace) more l (all_of (IsNoted job k trace word) (IsTrueIn job k trace) (λ m h. h.holds) more noted.1) trues),
+      each_so (IsTrueIn job k trace) (λ (e : Miss). e.moment ≤ m.moment) (λ e h. let low = within_trace job k trace e h in omega (arith, low, last)) (more ++ l)
+          (each_append (IsTrueIn job k trace) more l (each_so (IsNoted job k trace word) (IsTrueIn job k trace) (λ m h. h.holds) more noted.1) trues),
       in_order job k trace word more l noted.1 trues order,
     )
 
@@ -117,7 +110,7 @@ pub misses_kept : (job : CoreJob) (views : List View) (id k : ℕ) (v w : View) 
     → w.misses ≡ more ++ v.misses → AllByRecursion (IsNoted job k trace word) more → ((x : ℕ) (m : Miss) → IsTrueIn job x trace m → IsTrueIn job x new m)
     → MissesAgree job views trace → MissesAgree job (set views id w) new
 misses_kept job views id k v w trace new more word me from to from' to' are noted longer old i u x e lo hi =
-    let trues = all_of (IsNoted job k trace word) (IsTrueIn job k trace) (λ m h. h.holds) more noted in
+    let trues = each_so (IsNoted job k trace word) (IsTrueIn job k trace) (λ m h. h.holds) more noted in
     let was : AllByRecursion (IsTrueIn job x trace) u.misses × AreInOrder u.misses = ⊎_elim
     (λ q.
     let lo' : w.own.worker ≤ x = subst (λ (y : View). y.own.worker ≤ x) (sym q.1) lo in
@@ -125,10 +118,10 @@ misses_kept job views id k v w trace new more word me from to from' to' are note
     let at : x ≡ k = omega arith in
     let o = old id v k me (omega arith) (omega arith) in
     subst (λ (y : View). AllByRecursion (IsTrueIn job x trace) y.misses × AreInOrder y.misses) q.1 (subst (λ (y : ℕ). AllByRecursion (IsTrueIn job y trace) w.misses × AreInOrder w.misses) (sym at)
-    (subst (λ (l : List Miss). AllByRecursion (IsTrueIn job k trace) l × AreInOrder l) (sym are) (both_lists (IsTrueIn job k trace) more v.misses trues o.0, in_order job k trace word more v.misses noted o.0 o.1))))
+    (subst (λ (l : List Miss). AllByRecursion (IsTrueIn job k trace) l × AreInOrder l) (sym are) (each_append (IsTrueIn job k trace) more v.misses trues o.0, in_order job k trace word more v.misses noted o.0 o.1))))
     (λ q. old i u x q.1 lo hi)
     (at_set views id i w u e) in
-    (all_of (IsTrueIn job x trace) (IsTrueIn job x new) (longer x) u.misses was.0, was.1)
+    (each_so (IsTrueIn job x trace) (IsTrueIn job x new) (longer x) u.misses was.0, was.1)
 
 unset_now : (moment : ℕ) (set : Maybe ℕ) → ((s : ℕ) → set ≡ Some s → ⊥) → IsNotAfter moment set
 unset_now moment None f = tt
@@ -168,8 +161,8 @@ stop_still stop views id v w word word' more me low some_v some_w same stops fou
       let P : Miss → Type 0 = IsBeforeSet stop y.stopped_at in
       let old : (i : ℕ) (x : View) → get_elem? views i ≡ some x → x.own.worker < x.to → AllByRecursion P x.misses = λ i x at some_x. subst (λ (set : Maybe ℕ). AllByRecursion (IsBeforeSet stop set) x.misses) was.3 (h.unset i was.0 x was.1 at some_x was.2) in
       ⊎_elim
-      (λ q. subst (λ (x : View). AllByRecursion P x.misses) q.1 (subst (AllByRecursion P) (sym are) (both_lists P more v.misses
-      (all_of (λ (m : Miss). m.word ≡ stop → (m.found ≡ 0) × (word ≡ 0)) P (λ m z at. ((z at).0, unset_now m.moment y.stopped_at (λ s is. let one = h.since was.0 was.1 s was.2 (was.3 ∙ is) in let zero = (z at).1 in absurd (omega (arith, one, zero))))) more noted)
+      (λ q. subst (λ (x : View). AllByRecursion P x.misses) q.1 (subst (AllByRecursion P) (sym are) (each_append P more v.misses
+      (each_so (λ (m : Miss). m.word ≡ stop → (m.found ≡ 0) × (word ≡ 0)) P (λ m z at. ((z at).0, unset_now m.moment y.stopped_at (λ s is. let one = h.since was.0 was.1 s was.2 (was.3 ∙ is) in let zero = (z at).1 in absurd (omega (arith, one, zero))))) more noted)
       (old id v me some_v))))
       (λ q. old i u q.1 some_u)
       (at_set views id i w u e);

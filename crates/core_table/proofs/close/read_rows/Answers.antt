@@ -4,7 +4,7 @@ use Rattle.sp_order.specs.Jobs.{job_tree}
 use Rattle.sp_order.specs.Preorder.{nodes_of}
 use Rattle.batch_history.specs.declared.row.Row.{Row}
 use Rattle.seq_objects.proofs.Elements.{each_append}
-use Rattle.table_rule.proofs.ListLemmas.Lists.{next_row}
+use Rattle.table_rule.proofs.ListLemmas.Rows.{next_row}
 use Rattle.table_rule.specs.Words.{node_at, value_at, worker_in, start_in, end_in}
 use Rattle.core_table.specs.Closing.{RowInWords}
 use Rattle.core_table.proofs.CloseLemmas.Closes.{at_word}

@@ -1,4 +1,4 @@
--- Lemmas on lists all of whose members satisfy a property.
+-- The leaves of a list of rows that has one more row at its end.
 use Rattle.std.proofs.Common.{ℕ, zero, suc, ◌≡◌, ◌+◌, List, [], ◌∷◌, ◌++◌, map, arith, refl, ◌∙◌}
 use Rattle.batch_history.specs.declared.row.Row.{Row}
 use Rattle.std.specs.List.{range_with_len}

@@ -1,3 +1,3 @@
 -- Definitions that only code and proofs cite: no contract of a `pub` item uses them.
 pub mod Rows
-pub mod Turns
+pub mod Rotations

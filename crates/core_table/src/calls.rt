@@ -18,7 +18,7 @@ ghost use Rattle.table_rule.specs.Words.{flag_at};
 ghost use Rattle.table_rule.specs.Plays.{IsNewCall};
 
 use crate::table::{CoreTable, Pass};
-use crate::turns::{first_place, turn_by};
+use crate::rotation::{index_of, rotate_by};
 use batch_history::Batch;
 use core_model::{CallState, Receipt};
 use launch_batch::Shop;
@@ -178,12 +178,12 @@ impl CoreTable {
     {
         self.laws_hold();
         let shared = &self.table.shared;
-        let at = first_place(pass.owed.as_slice(), u);
+        let at = index_of(pass.owed.as_slice(), u);
         let behind = pass.owed.len() - at;
-        turn_by(&mut pass.seat, at);
+        rotate_by(&mut pass.seat, at);
         drop(shared.exchange(&mut pass.seat, u as usize, Slot::Receipt(receipt)));
         shared.store::<Answer>(&mut pass.seat, u as usize, SERVED);
-        turn_by(&mut pass.seat, behind);
+        rotate_by(&mut pass.seat, behind);
         pass.owed.remove(at);
     }
 

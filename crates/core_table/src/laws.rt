@@ -6,7 +6,7 @@ ghost use Rattle.table_rule.specs.declared.view.View.{View};
 ghost use Rattle.table_rule.specs.Laws.{IsSound};
 ghost use Rattle.core_table.specs.Calls.{IsViewOf, EachCallRefines, MakingStutters};
 
-pub use crate::sending::tables_go_to_threads;
+pub use crate::sending::{is_sent, is_shared, tables_go_to_threads};
 use table_rule::laws::laws_hold;
 
 /// The refinement, at the step of each call on any table that meets the rule. A `take` is an event even if it takes no

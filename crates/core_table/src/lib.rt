@@ -13,8 +13,8 @@ mod due;
 pub mod laws;
 mod make;
 mod nodes;
+mod rotation;
 mod sending;
 mod table;
-mod turns;
 
 pub use table::{CoreTable, Pass};

@@ -25,12 +25,12 @@ use table_rule::plays::SchedulerRule;
 use table_rule::{Slot, View};
 
 /// States that `T` is `Send`. For proofs only; does nothing at run time.
-fn is_sent<T: Send>()
+pub fn is_sent<T: Send>()
     ensures { IsSend T.row }
 {}
 
 /// States that `T` is `Sync`. For proofs only; does nothing at run time.
-fn is_shared<T: Sync>()
+pub fn is_shared<T: Sync>()
     ensures { IsSync T.row }
 {}
 

@@ -19,20 +19,10 @@ ghost use Rattle.worker_crew.specs.contracts.crew.Crew.{the_row as crew_row};
 ghost use Rattle.worker_crew.specs.contracts.crew.Me.{the_row as me_row};
 
 use crate::batch_pieces::BatchPieces;
-use core_table::laws::tables_go_to_threads;
+use core_table::laws::{is_sent, is_shared, tables_go_to_threads};
 use launch_batch::{PieceIn, PieceOut};
 use piece_board::{Board, Desk};
 use two_deques::{DeckPair, Decks, Hand, Stealers};
-
-/// Proof only: turns the bound `T: Send` into a fact about the type's row.
-fn is_sent<T: Send>()
-    ensures { IsSend T.row }
-{}
-
-/// Proof only: turns the bound `T: Sync` into a fact about the type's row.
-fn is_shared<T: Sync>()
-    ensures { IsSync T.row }
-{}
 
 /// Proof only: the board can be shared, and a desk can be sent.
 fn boards_go_to_threads()

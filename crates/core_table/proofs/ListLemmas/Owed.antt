@@ -1,4 +1,4 @@
--- The owed workers of a hold after each gate call, and the rotation of their slots.
+-- The owed workers of a hold after each of its steps, and the rotation of their slots.
 use Rattle.std.proofs.Common.{ℕ, zero, suc, ◌≡◌, ◌≢◌, ◌<◌, ◌≤◌, ◌+◌, ◌-◌, ◌==◌, if◌then◌else◌, Bool, true, false, Option as Maybe, None, Some, List, [], ◌∷◌, ◌++◌, length, get_or, take, drop, arith, refl, sym, ap, ◌∙◌, subst, inl, inr, length-append, append_assoc}
 use Rattle.std.specs.List.{AllByRecursion}
 use Rattle.std.proofs.lemmas.List.{append-nil, map-append, length-map}
@@ -17,7 +17,7 @@ use Rattle.table_rule.specs.Shows.{took_in, among}
 use Rattle.table_rule.specs.Passes.{call_by, without_first, new_hold, after_take, after_pass, after_publish, after_answer}
 use Rattle.table_rule.specs.HoldsSlots.{vacant}
 use Rattle.table_rule.specs.TracksHold.{Owes, TracksHold}
-use Rattle.core_table.specs.Code.Turns.{turns, IsFirstAt}
+use Rattle.core_table.specs.Code.Rotations.{rotated, IsFirstAt}
 use Rattle.seq_objects.proofs.Elements.{each_so}
 use Rattle.table_rule.proofs.ListLemmas.Last.{took_put, among_put, distinct_last}
 use Rattle.table_rule.proofs.TableLemmas.Facts.{true_is_false}
@@ -187,15 +187,15 @@ remembers_none w owed published nothing empty = record { none = λ _. empty; hol
 turned_last : (x : ℕ × Slot) (xs ys : List (ℕ × Slot)) → turned ((x ∷ xs) ++ ys) ≡ xs ++ (ys ++ x ∷ [])
 turned_last x xs ys = append_assoc xs ys (x ∷ [])
 
-turned_first : (n : ℕ) (xs : List (ℕ × Slot)) → turns n (turned xs) ≡ turned (turns n xs)
+turned_first : (n : ℕ) (xs : List (ℕ × Slot)) → rotated n (turned xs) ≡ turned (rotated n xs)
 turned_first zero xs = refl
 turned_first (suc n) xs = ap turned (turned_first n xs)
 
 -- `length xs` rotations bring xs to the back
-pub turns_all : (xs ys : List (ℕ × Slot)) → turns (length xs) (xs ++ ys) ≡ ys ++ xs
-turns_all [] ys = sym (append-nil ys)
-turns_all (x ∷ xs) ys =
-    sym (turned_first (length xs) ((x ∷ xs) ++ ys)) ∙ (ap (turns (length xs)) (turned_last x xs ys) ∙ (turns_all xs (ys ++ x ∷ []) ∙ append_assoc ys (x ∷ []) xs))
+pub rotated_all : (xs ys : List (ℕ × Slot)) → rotated (length xs) (xs ++ ys) ≡ ys ++ xs
+rotated_all [] ys = sym (append-nil ys)
+rotated_all (x ∷ xs) ys =
+    sym (turned_first (length xs) ((x ∷ xs) ++ ys)) ∙ (ap (rotated (length xs)) (turned_last x xs ys) ∙ (rotated_all xs (ys ++ x ∷ []) ∙ append_assoc ys (x ∷ []) xs))
 
 -- the first occurrence of a number satisfies `IsFirstAt`
 pub first_at : (xs : List ℕ) (u i : ℕ) → i < length xs → get_or xs i 0 ≡ u → among (take i xs) u ≡ false → IsFirstAt xs u i
@@ -240,23 +240,23 @@ vacant_append xs ys = rw map-append refl
 
 -- i rotations bring the slot of u to the head
 pub to_front : (owed : List ℕ) (u i : ℕ) (last : ℕ × Slot) → IsFirstAt owed u i
-    → turns i (vacant owed ++ last ∷ []) ≡ (u, Slots.Vacant) ∷ ((vacant (drop (suc i) owed) ++ last ∷ []) ++ vacant (take i owed))
+    → rotated i (vacant owed ++ last ∷ []) ≡ (u, Slots.Vacant) ∷ ((vacant (drop (suc i) owed) ++ last ∷ []) ++ vacant (take i owed))
 to_front owed u i last at =
     let front = take i owed in
     let behind = drop (suc i) owed in
     let long : i ≡ length (vacant front) = let a = length_front owed i (omega (arith, at.low)) in let b = length-map {B = ℕ × Slot} front (λ (u : ℕ). (u, Slots.Vacant)) in omega (arith, a, b) in
     let cut : vacant owed ++ last ∷ [] ≡ vacant front ++ ((u, Slots.Vacant) ∷ (vacant behind ++ last ∷ [])) =
     ap (λ l. vacant l ++ last ∷ []) at.split ∙ (ap (λ l. l ++ last ∷ []) (vacant_append front (u ∷ behind)) ∙ append_assoc (vacant front) (vacant (u ∷ behind)) (last ∷ [])) in
-    ap (turns i) cut ∙ (ap (λ n. turns n (vacant front ++ ((u, Slots.Vacant) ∷ (vacant behind ++ last ∷ [])))) long ∙ turns_all (vacant front) ((u, Slots.Vacant) ∷ (vacant behind ++ last ∷ [])))
+    ap (rotated i) cut ∙ (ap (λ n. rotated n (vacant front ++ ((u, Slots.Vacant) ∷ (vacant behind ++ last ∷ [])))) long ∙ rotated_all (vacant front) ((u, Slots.Vacant) ∷ (vacant behind ++ last ∷ [])))
 
 -- the remaining rotations restore the order of the others
 pub to_places : (owed : List ℕ) (u i n : ℕ) (last : ℕ × Slot) → IsFirstAt owed u i → n ≡ length owed - i
-    → turns n ((vacant (drop (suc i) owed) ++ last ∷ []) ++ vacant (take i owed)) ≡ vacant (without_first u owed) ++ last ∷ []
+    → rotated n ((vacant (drop (suc i) owed) ++ last ∷ []) ++ vacant (take i owed)) ≡ vacant (without_first u owed) ++ last ∷ []
 to_places owed u i n last at is =
     let front = take i owed in
     let behind = drop (suc i) owed in
     let long : n ≡ length (vacant behind ++ last ∷ []) =
     let a = length_behind owed i at.low in let b = length-append (vacant behind) (last ∷ []) in let c = length-map {B = ℕ × Slot} behind (λ (u : ℕ). (u, Slots.Vacant)) in omega (arith, a, b, c, is) in
-    ap (λ m. turns m ((vacant behind ++ last ∷ []) ++ vacant front)) long
-    ∙ (turns_all (vacant behind ++ last ∷ []) (vacant front)
+    ap (λ m. rotated m ((vacant behind ++ last ∷ []) ++ vacant front)) long
+    ∙ (rotated_all (vacant behind ++ last ∷ []) (vacant front)
     ∙ (sym (append_assoc (vacant front) (vacant behind) (last ∷ [])) ∙ (ap (λ l. l ++ last ∷ []) (sym (vacant_append front behind)) ∙ ap (λ l. vacant l ++ last ∷ []) (sym at.rest))))

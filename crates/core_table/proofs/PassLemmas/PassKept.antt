@@ -67,7 +67,7 @@ pub pass_kept : {owed : List ℕ} {published : Bool} (setting : Setting) (table 
 pass_kept setting table k old new w same is workers nodes room enrolled task call hold given p =
     pass_stepped setting table k old new w same is workers nodes room enrolled (subst (TaskHere (job_of setting)) (sym task) p.5) call hold given p
 
--- a pass after a gate call, from its new view and slots
+-- a pass after a step of a call or a hold, from its new view and slots
 pub pass_made : {owed owed' : List ℕ} {published published' : Bool} (setting : Setting) (table : TableId) (k : ℕ) (old new : Seat Slot View) (w : View) (xs : List (ℕ × Slot)) → new.table_id ≡ old.table_id → new.me ≡ (w, xs)
     → w.workers ≡ old.me.0.workers → w.nodes ≡ old.me.0.nodes → w.room ≡ old.me.0.room → w.enrolled ≡ old.me.0.enrolled → w.own.task ≡ old.me.0.own.task → w.job ≡ old.me.0.job → HoldsSlots k (w, xs) → TracksHold w owed' published' → LooksFit setting.workers w.own.hold
     → IsSeatOf setting table k old owed published → IsSeatOf setting table k new owed' published'

@@ -1,4 +1,4 @@
--- The steps of the gate side.
+-- The steps of calls and of holds of the flag.
 use Rattle.std.proofs.Common.{ℕ, ◌≡◌, ◌≢◌, ◌<◌, ◌≤◌, ◌+◌, Bool, true, false, if◌then◌else◌, ◌==◌, Option as Maybe, None, Some, List, [], ◌∷◌, ◌++◌, map, length, get_or, set, eqb, arith, refl, sym, ap, ◌∙◌, subst, inl, inr, ⊎_elim, length-set, get_or-set_other}
 use Rattle.std.proofs.lemmas.List.{length-map, map-append, append-nil}
 use Rattle.std.proofs.lemmas.Bool.Decides.{nat_tests}

@@ -8,7 +8,7 @@ use Rattle.table_rule.proofs.StepLemmas.NextActs.{has_value, may_post, next_stan
 use Rattle.table_rule.specs.Shows.{job_of, room_of}
 use Rattle.table_rule.proofs.StepLemmas.NodeSteps as jobs
 use Rattle.table_rule.proofs.StepLemmas.LookSteps as looks
-use Rattle.table_rule.proofs.StepLemmas.CallSteps as gate
+use Rattle.table_rule.proofs.StepLemmas.CallSteps as calls
 use Rattle.table_rule.proofs.StepLemmas.PublishStep as publishing
 use Rattle.table_rule.proofs.StepLemmas.Starts as makings
 use Rattle.core_table.proofs.laws.each_call_is_its_event.Goals as goal
@@ -35,14 +35,14 @@ returns-clause-calls c key sound slots id k v xs is =
           let may = may_post job laws v.own.call v.own.told v.own.task call is.task due in
           let both = sym may.1.2 ∙ task in
           let at : may.1.0 ≡ n = cc in
-          gate.posts job room laws slots id v xs k is.worker is.to call is.enrolled (n, start, task, subst (λ (y : ℕ). job.plan.kind y ≡ Some (LeafNode call.leaf)) at may.1.3, may.1.4) may.0;
-      win = λ out. gate.wins job room laws slots id v xs k is.worker is.to is.workers out is.room is.job;
-      take = λ h u holds due. gate.looks job room laws slots id v xs k is.worker is.to h u is.room is.room is.job holds due.0 due.1;
+          calls.posts job room laws slots id v xs k is.worker is.to call is.enrolled (n, start, task, subst (λ (y : ℕ). job.plan.kind y ≡ Some (LeafNode call.leaf)) at may.1.3, may.1.4) may.0;
+      win = λ out. calls.wins job room laws slots id v xs k is.worker is.to is.workers out is.room is.job;
+      take = λ h u holds due. calls.looks job room laws slots id v xs k is.worker is.to h u is.room is.room is.job holds due.0 due.1;
       publish = λ h batch holds due. publishing.publishes job room laws slots id v xs k is.worker is.to h batch holds is.room due;
-      answer = λ h u call r holds there record_ yet receipt. gate.answers job room laws slots id v xs k is.worker is.to h u call r holds there record_ yet receipt;
-      release = λ h holds due there. gate.releases_shop job room laws slots id v xs k is.worker is.to h h.book holds due.looked there due.answered refl;
-      release_unserved = λ h holds due. gate.releases_both job room laws slots id v xs k is.worker is.to h h.book holds due.looked due.answered refl;
-      leave = λ out nothing. gate.leaves job room laws slots id v xs k is.worker is.to is.enrolled out nothing is.job is.room;
+      answer = λ h u call r holds there record_ yet receipt. calls.answers job room laws slots id v xs k is.worker is.to h u call r holds there record_ yet receipt;
+      release = λ h holds due there. calls.releases_shop job room laws slots id v xs k is.worker is.to h h.book holds due.looked there due.answered refl;
+      release_unserved = λ h holds due. calls.releases_both job room laws slots id v xs k is.worker is.to h h.book holds due.looked due.answered refl;
+      leave = λ out nothing. calls.leaves job room laws slots id v xs k is.worker is.to is.enrolled out nothing is.job is.room;
       root_done = looks.looks_at_root job room laws slots id v xs k is.worker is.to _ is.workers refl laws.root is.job is.room;
       since = looks.hears job room laws slots id v xs k is.worker is.to is.workers;
       stop = looks.stops job room laws slots id v xs k is.worker is.to is.workers is.job is.room;

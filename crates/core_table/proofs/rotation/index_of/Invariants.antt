@@ -1,6 +1,6 @@
 use Rattle.std.proofs.Common.{◌≡◌, false, take}
 use Rattle.table_rule.specs.Shows.{among}
-use Rattle.core_table.proofs.turns.first_place.Given as goal
+use Rattle.core_table.proofs.rotation.index_of.Given as goal
 
 abbrev pub invariant-loop-i : goal.invariant-loop-i
 invariant-loop-i l = record {

@@ -5,9 +5,9 @@ use Rattle.table_rule.specs.declared.slot.Slot.{Slot}
 use Rattle.table_rule.specs.Passes.{without_first}
 
 -- the list after its head is moved to the back n times
-abbrev pub turns : ℕ → List (ℕ × Slot) → List (ℕ × Slot)
-turns zero xs = xs
-turns (suc n) xs = turned (turns n xs)
+abbrev pub rotated : ℕ → List (ℕ × Slot) → List (ℕ × Slot)
+rotated zero xs = xs
+rotated (suc n) xs = turned (rotated n xs)
 
 -- xs has u at index i, and removing the first u from xs gives the list without index i
 pub record IsFirstAt (xs : List ℕ) (u i : ℕ) : Type 0 where

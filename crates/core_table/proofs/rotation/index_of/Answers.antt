@@ -1,6 +1,6 @@
 use Rattle.std.proofs.Common.{arith}
 use Rattle.core_table.proofs.ListLemmas.Owed.{first_at, among_next, all_passed}
-use Rattle.core_table.proofs.turns.first_place.Goals as goal
+use Rattle.core_table.proofs.rotation.index_of.Goals as goal
 
 pub returns-then-numbers-i : goal.returns-then-numbers-i
 returns-then-numbers-i c = first_at c.args.numbers.now c.args.number c.loop-i.i (omega (arith, c.loop-i-test.true)) c.if-numbers-i.true c.loop-i.invariant.yet

@@ -1,5 +1,6 @@
 -- The report of a closed table: of the table's own state, and of the steps that lead to it.
 use Rattle.std.proofs.Common.{ℕ, ◌≡◌, ◌≢◌, ◌<◌, ◌≤◌, ◌+◌, true, None, List, map, refl, sym, ap, ◌∙◌, subst}
+use Rattle.limits.specs.declared.TheConstants.{MOST_WORKERS}
 use Rattle.std.specs.List.{AllByRecursion, range_with_len}
 use mathlib.Core.Option.{some, some-injective}
 use lib.ListN.{get_elem?}
@@ -38,7 +39,7 @@ pub record Reported (key : Setting) (v : View) (report : Report) : Type 0 where
   pub seen : IsPrefix v.own.book_seen report.history
 
 pub reported_last : (key : Setting) (v : View) (ws : List ℕ) (xs : List Slot) (laws : Laws (job_of key)) → Last (job_of key) (room_of key) v ws xs
-    → key.workers ≤ 32 → (got : Slot) (book : ReservedView) (history : List (List Entry)) (rows : List Row)
+    → key.workers ≤ MOST_WORKERS → (got : Slot) (book : ReservedView) (history : List (List Entry)) (rows : List Row)
     → get_elem? xs (key.workers + 1) ≡ some got → got ≡ Slots.Book book → history ≡ book.batches
     → map (λ row. row.leaf) rows ≡ range_with_len 0 (leaves (job_tree key.job))
     → AllByRecursion (RowInWords key.workers (job_of key).plan.count (leaves (job_tree key.job)) (job_of key).plan.node_of ws) rows
@@ -83,7 +84,7 @@ reported_last key v ws xs laws last few got book history rows there is told_hist
     }
 
 pub reported : (key : Setting) (id k : ℕ) (v : View) (ws : List ℕ) (xs : List Slot) (laws : Laws (job_of key)) → Final (Seen (Shown key) id v) ws xs → v.own.worker ≡ k → v.to ≡ k + 1 → v.saw_done ≡ true
-    → key.workers ≤ 32 → (got : Slot) (book : ReservedView) (history : List (List Entry)) (rows : List Row)
+    → key.workers ≤ MOST_WORKERS → (got : Slot) (book : ReservedView) (history : List (List Entry)) (rows : List Row)
     → get_elem? xs (key.workers + 1) ≡ some got → got ≡ Slots.Book book → history ≡ book.batches
     → map (λ row. row.leaf) rows ≡ range_with_len 0 (leaves (job_tree key.job))
     → AllByRecursion (RowInWords key.workers (job_of key).plan.count (leaves (job_tree key.job)) (job_of key).plan.node_of ws) rows

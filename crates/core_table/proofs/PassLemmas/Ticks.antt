@@ -10,7 +10,7 @@ use Rattle.table_rule.specs.declared.view.View.{View}
 use Rattle.table_rule.specs.DueActs.{IsTickDue}
 use Rattle.table_rule.specs.Laws.{Laws}
 use Rattle.table_rule.specs.Plays.{SeatState}
-use Rattle.table_rule.specs.Tasks.{TaskHere, IsNext, job_seen}
+use Rattle.table_rule.specs.Tasks.{TaskHere, IsNext, job_seen, most_ticks}
 use Rattle.table_rule.specs.Passes.{with_task}
 use Rattle.table_rule.specs.Views.{with_step}
 use Rattle.table_rule.proofs.StepLemmas.NextActs.{next_stands, next_seen}
@@ -26,7 +26,7 @@ module _ (job : CoreJob) (laws : Laws job) (v : View) (xs : List (ℕ × Slot)) 
   abbrev Ends : Type 0
   Ends = (n start : ℕ) → IsNext v (acts.End n start) → m ≡ (with_step (with_task (End n start) (Ended n start tick)) v, xs)
 
-  ticks_by : (o : Option Next) → TaskHere job v.own.task → next_act job v.own.task v.own.call ≡ o → IsTickDue o → v.own.task ≡ was → tick < 80000 → Starts → Ends
+  ticks_by : (o : Option Next) → TaskHere job v.own.task → next_act job v.own.task v.own.call ≡ o → IsTickDue o → v.own.task ≡ was → tick < most_ticks → Starts → Ends
       → ((n : ℕ) → was ≡ Run n → task ≡ Started n tick) → ((n start : ℕ) → was ≡ Kept n start → task ≡ Ended n start tick) → IsTicked
   ticks_by (Some (acts.Start n leaf)) here due is at low starts ends started ended =
       let stands = next_stands job laws v.own.call v.own.task (acts.Start n leaf) here due in
@@ -38,7 +38,7 @@ module _ (job : CoreJob) (laws : Laws job) (v : View) (xs : List (ℕ × Slot)) 
       let stands = next_stands job laws v.own.call v.own.task (acts.End n start) here due in
       let after = ended n start (sym at ∙ stands) in
       let told = ends n start (next_seen job v (acts.End n start) known due) in
-      let kept : (n < job.plan.count) × (start < 80000) = subst (TaskHere job) stands here in
+      let kept : (n < job.plan.count) × (start < most_ticks) = subst (TaskHere job) stands here in
       (End n start, told ∙ ap (λ (y : Task). (with_step (with_task (End n start) y) v, xs)) (sym after), subst (TaskHere job) (sym after) (kept.0, kept.1, low))
   ticks_by None here due is at low starts ends started ended = absurd is
   ticks_by (Some (acts.Open n y event)) here due is at low starts ends started ended = absurd is
@@ -48,6 +48,6 @@ module _ (job : CoreJob) (laws : Laws job) (v : View) (xs : List (ℕ × Slot)) 
   ticks_by (Some (acts.Finish n event)) here due is at low starts ends started ended = absurd is
   ticks_by (Some (acts.Arrive p l r n)) here due is at low starts ends started ended = absurd is
 
-  pub ticks : TaskHere job v.own.task → IsTickDue (next_act job v.own.task v.own.call) → v.own.task ≡ was → (tick < 80000) × Starts × Ends
+  pub ticks : TaskHere job v.own.task → IsTickDue (next_act job v.own.task v.own.call) → v.own.task ≡ was → (tick < most_ticks) × Starts × Ends
       → ((n : ℕ) → was ≡ Run n → task ≡ Started n tick) → ((n start : ℕ) → was ≡ Kept n start → task ≡ Ended n start tick) → IsTicked
   ticks here due at told started ended = ticks_by (next_act job v.own.task v.own.call) here refl due at told.0 told.1 told.2 started ended

@@ -26,7 +26,7 @@ use Rattle.core_model.specs.Operations.{leaf_of}
 use Rattle.table_rule.specs.declared.view.Miss.{Miss}
 use Rattle.table_rule.specs.declared.view.View.{View}
 use Rattle.table_rule.specs.declared.slot.Slot.{Slot}
-use Rattle.table_rule.specs.Tasks.{TaskHere, progress_after, job_seen, IsNext}
+use Rattle.table_rule.specs.Tasks.{TaskHere, most_ticks, progress_after, job_seen, IsNext}
 use Rattle.table_rule.specs.DueActs.{IsTickDue}
 use Rattle.table_rule.proofs.StepLemmas.NextActs.{act_is, next_stands}
 use Rattle.table_rule.proofs.StepLemmas.Sides.{block_in}
@@ -108,14 +108,14 @@ module _ (job : CoreJob) (room : ℕ) (laws : Laws job) (slots id : ℕ) (v : Vi
 
   -- a draw of the tick, and what it tells the seat of the task that it leaves
   draws : (event : Event) (y : ℕ → Task) → v.own.call ≢ Out
-      → ((tick : ℕ) → tick < 80000 → drawn (step slots (tick_at P) 1 0 none) (v, xs) tick (with_step (with_task event (y tick)) v, xs))
+      → ((tick : ℕ) → tick < most_ticks → drawn (step slots (tick_at P) 1 0 none) (v, xs) tick (with_step (with_task event (y tick)) v, xs))
       → ((t : TableState) (o : Shows job room t) → get_elem? t.views id ≡ some v → Happens job o.state k event (record o.state { tick = o.state.tick + 1; task = put o.state.task k (y o.state.tick) }))
       → StepRefines job room slots id (v, xs) (tick_at P) (λ n. (n + 1) % 2 ^ 64) (drawn (step slots (tick_at P) 1 0 none) (v, xs)) (MakesEvent job k event)
   draws event y inside told happens t o wide me fits =
       let s = o.state in
       let word = get_or t.words (tick_at P) 0 in
       let most = laws.ticks s o.parts in
-      let room' : word < 80000 = omega (arith, most, laws.few, o.words.ticks) in
+      let room' : word < most_ticks = omega (arith, most, laws.few, o.words.ticks) in
       let next : (word + 1) % 2 ^ 64 ≡ s.tick + 1 = omega (arith, o.words.ticks, room') in
       let w : View = with_step (with_task event (y word)) v in
       let m = mine_of job room t o id k v me from to in (

@@ -1,5 +1,6 @@
 -- The step that publishes.
-use Rattle.std.proofs.Common.{ℕ, ◌≡◌, ◌<◌, ◌≤◌, ◌+◌, ◌%◌, ◌^◌, Bool, true, false, Option as Maybe, Some, List, [], ◌∷◌, ◌++◌, map, length, get_or, set, arith, refl, sym, ap, ◌∙◌, subst, length-append, length-set, append_assoc, inl, get_or-set_other}
+use Rattle.std.proofs.Common.{ℕ, ◌≡◌, ◌<◌, ◌≤◌, ◌+◌, ◌*◌, ◌%◌, ◌^◌, Bool, true, false, Option as Maybe, Some, List, [], ◌∷◌, ◌++◌, map, length, get_or, set, arith, refl, sym, ap, ◌∙◌, subst, length-append, length-set, append_assoc, inl, get_or-set_other}
+use Rattle.limits.specs.declared.TheConstants.{MOST_LEAVES, MOST_WORKERS}
 use mathlib.Core.Option.{none, some}
 use lib.ListN.{get_elem?}
 use Rattle.atomic_table.specs.Table.{step, keeps, gives}
@@ -145,11 +146,11 @@ to_batch job s k h batch kept held same told known serves = record {
 }
 
 -- the book of a state is a history
-is_history : (job : CoreJob) (laws : Laws job) (s : State) → job.workers ≤ 32 → Parts job s → IsHistory s.book
+is_history : (job : CoreJob) (laws : Laws job) (s : State) → job.workers ≤ MOST_WORKERS → Parts job s → IsHistory s.book
 is_history job laws s few parts = record {
   legal = parts.book.legal;
   batches = parts.book.batches;
-  workers = each_so (λ (e : Entry). e.worker < job.workers) (λ (e : Entry). e.worker < 32) (λ e low. omega arith) (flat s.book) parts.book.among;
+  workers = each_so (λ (e : Entry). e.worker < job.workers) (λ (e : Entry). e.worker < MOST_WORKERS) (λ e low. omega arith) (flat s.book) parts.book.among;
   leaves = parts.book.leaves;
   numbers = each_mapped (λ (e : Entry). e.leaf) (λ (e : Entry). op_of job s.book e.leaf ≡ Some e.op) (λ (l : ℕ). l < 2 ^ 32) (λ e op. laws.low e.leaf (is_call job s.book e.leaf e.op op)) (flat s.book) parts.book.operations;
 }
@@ -165,8 +166,8 @@ batches_in (Slots.Book book) = book.batches
 batches_same : (a b : List (List Entry)) (r : ℕ) → Slots.Book (reserved a r) ≡ Slots.Book (reserved b r) → a ≡ b
 batches_same a b r e = ap batches_in e
 
--- a book has fewer than 40000 batches
-few_batches : (job : CoreJob) (laws : Laws job) (s : State) → Parts job s → length s.book < 40000
+-- a book has fewer than twice `MOST_LEAVES` batches
+few_batches : (job : CoreJob) (laws : Laws job) (s : State) → Parts job s → length s.book < 2 * MOST_LEAVES
 few_batches job laws s parts =
     let most = laws.batches s parts in
     let room = laws.room s [] parts tt tt in
@@ -203,7 +204,7 @@ module _ (job : CoreJob) (room : ℕ) (laws : Laws job) (slots id : ℕ) (v : Vi
       }
 
   -- the look before a publish: the book has room for the batch, and stays a history with it
-  pub admits : (i : ℕ) → v.workers ≡ job.workers → v.room ≡ call_count job → job.workers ≤ 32 → StepRefines job room slots id (v, xs) i (λ y. y) (G.admitted (step slots i 0 0 none) (v, xs)) (Stutters)
+  pub admits : (i : ℕ) → v.workers ≡ job.workers → v.room ≡ call_count job → job.workers ≤ MOST_WORKERS → StepRefines job room slots id (v, xs) i (λ y. y) (G.admitted (step slots i 0 0 none) (v, xs)) (Stutters)
   admits i sized roomy few t o wide me fits =
       let s = o.state in
       let m = mine_of job room t o id k v me from to in (
@@ -246,7 +247,7 @@ module _ (job : CoreJob) (room : ℕ) (laws : Laws job) (slots id : ℕ) (v : Vi
       let happens : Happens job s k Publish new = can_publish s h batch o.parts m.0 known due in
       let parts_later = laws.keeps s new k Publish o.parts happens in
       let long : length (s.book ++ batch ∷ []) ≡ length s.book + 1 = length-append s.book (batch ∷ []) in
-      let few : length s.book < 40000 = few_batches job laws s o.parts in
+      let few : length s.book < 2 * MOST_LEAVES = few_batches job laws s o.parts in
       let count : (word + 1) % 2 ^ 64 ≡ length (s.book ++ batch ∷ []) = omega (arith, long, o.words.batches, few) in
       let homes = set t.homes (book_at P) (some (Slots.Book book)) in
       let far : (x : ℕ) → x < P → get_elem? homes x ≡ get_elem? t.homes x = λ x low. set_else t.homes (P + 1) x (some (Slots.Book book)) (λ e. omega arith) in (

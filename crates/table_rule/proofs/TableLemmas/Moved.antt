@@ -1,5 +1,6 @@
 -- After a step the table shows the state that its event makes, or after a stutter the same state.
-use Rattle.std.proofs.Common.{ℕ, zero, suc, ◌≡◌, ◌≢◌, ◌<◌, ◌≤◌, ◌+◌, Bool, true, false, ◌&&◌, not, ◌⊎◌, Option as Maybe, None, Some, List, [], ◌∷◌, ◌++◌, map, length, get_or, set, arith, refl, sym, ap, ◌∙◌, subst, inl, inr, ⊎_elim}
+use Rattle.std.proofs.Common.{ℕ, zero, suc, ◌≡◌, ◌≢◌, ◌<◌, ◌≤◌, ◌+◌, ◌*◌, Bool, true, false, ◌&&◌, not, ◌⊎◌, Option as Maybe, None, Some, List, [], ◌∷◌, ◌++◌, map, length, get_or, set, arith, refl, sym, ap, ◌∙◌, subst, inl, inr, ⊎_elim}
+use Rattle.limits.specs.declared.TheConstants.{MOST_LEAVES}
 use Rattle.std.specs.List.{AllByRecursion}
 use Rattle.std.proofs.lemmas.Bool.{cases_eq}
 use Rattle.std.proofs.lemmas.Bool.Decides.{nat_tests}
@@ -301,7 +302,7 @@ job_step job room laws t o id k v w words event node mark value tick call y happ
 pub keyed : (key setting : Setting) (slots id : ℕ) (me : SeatState) (i : ℕ) (f : ℕ → ℕ) (tells : ℕ → SeatState → Type 0) → key ≡ setting → Allows (Shown setting) slots id me i f tells → Allows (Shown key) slots id me i f tells
 keyed key setting slots id me i f tells e h = subst (λ (y : Setting). Allows (Shown y) slots id me i f tells) (sym e) h
 
-pub few_nodes : (nodes count : ℕ) → nodes ≡ count → nodes < 40000 → count < 40000
+pub few_nodes : (nodes count : ℕ) → nodes ≡ count → nodes < 2 * MOST_LEAVES → count < 2 * MOST_LEAVES
 few_nodes nodes count e h = omega (arith, e, h)
 
 -- `TryMakes` for a try that finds the wanted number, and for one that does not

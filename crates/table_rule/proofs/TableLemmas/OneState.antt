@@ -1,5 +1,7 @@
 -- A table shows at most one state: each part is determined by a word, a slot or a view.
 use Rattle.std.proofs.Common.{ℕ, ◌≡◌, ◌≢◌, ◌<◌, ◌≤◌, ◌+◌, Option as Maybe, None, Some, List, get_or, arith, refl, sym, ap, ◌∙◌, subst, inl, inr}
+use Rattle.limits.specs.declared.TheConstants.{MOST_WORKERS}
+use Rattle.table_rule.specs.declared.progress.TheConstants.{TICKS}
 use mathlib.Core.Option.{some, some-injective}
 use lib.ListN.{get_elem?}
 use native.Mathlib.Decide.{dec_le}
@@ -27,7 +29,7 @@ use Rattle.table_rule.proofs.TableLemmas.Words.{worker_of, start_of, end_of}
 
 -- a node's word determines its progress, if the worker and start of what has run fit their bits
 same_progress : (x y : Progress) → progress_code x ≡ progress_code y
-    → ((w s e : ℕ) → x ≡ Ran w s e → (w < 32) × (s < 1048576)) → ((w s e : ℕ) → y ≡ Ran w s e → (w < 32) × (s < 1048576))
+    → ((w s e : ℕ) → x ≡ Ran w s e → (w < MOST_WORKERS) × (s < TICKS)) → ((w s e : ℕ) → y ≡ Ran w s e → (w < MOST_WORKERS) × (s < TICKS))
     → ((w s e : ℕ) → y ≡ Ran w s e → x ≢ Done) → ((w s e : ℕ) → x ≡ Ran w s e → y ≢ Done) → x ≡ y
 same_progress Waiting Waiting same low low' leaf leaf' = refl
 same_progress Waiting Ready same low low' leaf leaf' = absurd (omega (arith, same))
@@ -146,13 +148,13 @@ same_hold job room t a b (Some h) y e f =
     told_hold job a.state b.state m.view.own.hold h.worker h e refl m.one.hold m.two.hold
 
 -- the worker and start of a leaf that has run fit their bits
-ran_low : (job : CoreJob) (laws : Laws job) (s : State) (n w t e : ℕ) → job.workers ≤ 32 → Parts job s → s.node n ≡ Ran w t e → (w < 32) × (t < 1048576)
+ran_low : (job : CoreJob) (laws : Laws job) (s : State) (n w t e : ℕ) → job.workers ≤ MOST_WORKERS → Parts job s → s.node n ≡ Ran w t e → (w < MOST_WORKERS) × (t < TICKS)
 ran_low job laws s n w t e few kept ran =
     let worker = kept.ticks.among n w t e ran in
     let start = kept.ticks.only (start_of_node n) t (w, e, ran) in
     let most = laws.ticks s kept in (omega (arith, worker, few), omega (arith, start, most, laws.few))
 
-same_node : (job : CoreJob) (laws : Laws job) (room : ℕ) (t : TableState) (a b : Shows job room t) (n : ℕ) (kind : Maybe Kind) → job.workers ≤ 32 → job.plan.kind n ≡ kind → a.state.node n ≡ b.state.node n
+same_node : (job : CoreJob) (laws : Laws job) (room : ℕ) (t : TableState) (a b : Shows job room t) (n : ℕ) (kind : Maybe Kind) → job.workers ≤ MOST_WORKERS → job.plan.kind n ≡ kind → a.state.node n ≡ b.state.node n
 same_node job laws room t a b n None few is = a.parts.nodes.outside n is ∙ sym (b.parts.nodes.outside n is)
 same_node job laws room t a b n (Some kind) few is =
     let low = laws.plan.within n (λ e. let f = sym is ∙ e in absurd (cc)) in
@@ -172,7 +174,7 @@ same_value x y v u word e f h g =
     let two : word ≡ u = rw f at g in
     e ∙ (ap Some (sym one ∙ two) ∙ sym f)
 
-pub one_state : (job : CoreJob) (room : ℕ) (laws : Laws job) (t : TableState) (a b : Shows job room t) → job.workers ≤ 32 → AreOne job a.state b.state
+pub one_state : (job : CoreJob) (room : ℕ) (laws : Laws job) (t : TableState) (a b : Shows job room t) → job.workers ≤ MOST_WORKERS → AreOne job a.state b.state
 one_state job room laws t a b few =
     let one = a.state in
     let two = b.state in

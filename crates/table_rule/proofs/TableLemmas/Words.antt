@@ -1,5 +1,7 @@
 -- How the words change when one part of the state that they encode changes.
 use Rattle.std.proofs.Common.{ℕ, ◌≡◌, ◌<◌, Option, Some, List, get_or, set, arith, refl, sym, ◌∙◌, subst, inl, inr, length-set, get_or-set_other, get_or-set_same}
+use Rattle.limits.specs.declared.TheConstants.{MOST_WORKERS}
+use Rattle.table_rule.specs.declared.progress.TheConstants.{TICKS}
 use Rattle.std.proofs.lemmas.Bool.{cases_eq}
 use Rattle.core_model.specs.declared.progress.Progress.{Progress}
 use Rattle.core_model.specs.declared.progress.Progress.TheVariants.{Ran}
@@ -9,13 +11,13 @@ use Rattle.table_rule.specs.Words.{flag_at, count_at, tick_at, stop_at, node_at,
 use Rattle.core_model.proofs.InvariantLemmas.Puts.{put_at, put_other}
 
 -- the parts of the word of a leaf that has run
-pub worker_of : (w s e : ℕ) → w < 32 → worker_in (progress_code (Ran w s e)) ≡ w
+pub worker_of : (w s e : ℕ) → w < MOST_WORKERS → worker_in (progress_code (Ran w s e)) ≡ w
 worker_of w s e low = omega arith
 
-pub start_of : (w s e : ℕ) → w < 32 → s < 1048576 → start_in (progress_code (Ran w s e)) ≡ s
+pub start_of : (w s e : ℕ) → w < MOST_WORKERS → s < TICKS → start_in (progress_code (Ran w s e)) ≡ s
 start_of w s e low low' = omega arith
 
-pub end_of : (w s e : ℕ) → w < 32 → s < 1048576 → end_in (progress_code (Ran w s e)) ≡ e
+pub end_of : (w s e : ℕ) → w < MOST_WORKERS → s < TICKS → end_in (progress_code (Ran w s e)) ≡ e
 end_of w s e low low' = omega arith
 
 pub value_word : (v : Option ℕ) (a b : ℕ) → a ≡ b → HasValue v b → HasValue v a

@@ -6,7 +6,7 @@ use Rattle.core_model.specs.declared.next.Next.TheVariants as acts
 use Rattle.table_rule.proofs.StepLemmas.Sides.{started_in}
 use Rattle.table_rule.proofs.StepLemmas.NextActs.{has_value, may_post, next_stands}
 use Rattle.table_rule.specs.Shows.{job_of, room_of}
-use Rattle.table_rule.proofs.StepLemmas.NodeSteps as jobs
+use Rattle.table_rule.proofs.StepLemmas.NodeSteps as nodes
 use Rattle.table_rule.proofs.StepLemmas.LookSteps as looks
 use Rattle.table_rule.proofs.StepLemmas.CallSteps as calls
 use Rattle.table_rule.proofs.StepLemmas.PublishStep as publishing
@@ -18,19 +18,19 @@ returns-clause-calls c key sound slots id k v xs is =
     let job = job_of key in
     let room = room_of key in
     let laws = c.laws_hold.ensures key sound.few sound.leaves sound.short sound.sources in record {
-      claim = λ n below idle inside. jobs.claims job room laws slots id v xs k is.worker is.to is.workers is.enrolled is.job is.room n below idle inside;
+      claim = λ n below idle inside. nodes.claims job room laws slots id v xs k is.worker is.to is.workers is.enrolled is.job is.room n below idle inside;
       claim_past_the_last = λ n past some_workers. looks.strays job room laws slots id v xs k is.worker is.to n (subst (λ (count : ℕ). count ≤ n) (sym is.nodes) past) some_workers is.job is.room;
-      start = λ n leaf due inside. jobs.starts job room laws slots id v xs k is.worker is.to is.workers is.enrolled is.job n leaf is.task due inside;
-      end = λ n start due inside. jobs.ends job room laws slots id v xs k is.worker is.to is.workers is.enrolled is.job n start is.task due inside;
-      open_side = λ n task event due inside. jobs.opens job room laws slots id v xs k is.worker is.to is.workers is.enrolled is.job n task event is.task due inside;
+      start = λ n leaf due inside. nodes.starts job room laws slots id v xs k is.worker is.to is.workers is.enrolled is.job n leaf is.task due inside;
+      end = λ n start due inside. nodes.ends job room laws slots id v xs k is.worker is.to is.workers is.enrolled is.job n start is.task due inside;
+      open_side = λ n task event due inside. nodes.opens job room laws slots id v xs k is.worker is.to is.workers is.enrolled is.job n task event is.task due inside;
       keep = λ n start x task due inside.
           let value = has_value job laws v.own.call v.own.task x is.task due in
           let both = sym value.2 ∙ task in
           let at : value.0 ≡ n = cc in
-          jobs.keeps_value job room laws slots id v xs k is.worker is.to is.workers is.enrolled is.job _ n start x refl task (started_in job v.own.task n start task is.task)
+          nodes.keeps_value job room laws slots id v xs k is.worker is.to is.workers is.enrolled is.job _ n start x refl task (started_in job v.own.task n start task is.task)
           (subst (λ (y : ℕ). value_in (job.act (leaf_of (job.plan.kind y))) v.own.call ≡ Some x) at value.3) inside;
-      finish = λ n event due inside. jobs.finishes job room laws slots id v xs k is.worker is.to is.workers is.enrolled is.job n event is.task due inside;
-      arrive = λ p l r n due inside. jobs.arrives job room laws slots id v xs k is.worker is.to is.workers is.enrolled is.job _ p l r n refl is.task due inside;
+      finish = λ n event due inside. nodes.finishes job room laws slots id v xs k is.worker is.to is.workers is.enrolled is.job n event is.task due inside;
+      arrive = λ p l r n due inside. nodes.arrives job room laws slots id v xs k is.worker is.to is.workers is.enrolled is.job _ p l r n refl is.task due inside;
       post = λ n start call task due.
           let may = may_post job laws v.own.call v.own.told v.own.task call is.task due in
           let both = sym may.1.2 ∙ task in

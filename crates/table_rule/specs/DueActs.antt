@@ -19,11 +19,16 @@ abbrev pub IsOpenDue : Maybe Next → Type 0
 IsOpenDue (Some (acts.Open n task event)) = Unit {0}
 IsOpenDue _ = ⊥
 
--- a keep of this value: that of the leaf's work, or that of the reply to its call
+-- a keep of this value: that of the leaf's work, where the leaves of work compute `work`, or that of the reply to its
+-- call
+abbrev pub IsKeepDueWith : (ℕ → ℕ) → Maybe Next → ℕ → Type 0
+IsKeepDueWith work (Some (acts.Spin n start steps)) value = value ≡ work steps
+IsKeepDueWith work (Some (acts.Got n start reply)) value = value ≡ value_of reply
+IsKeepDueWith work _ value = ⊥
+
+-- the same where they spin
 abbrev pub IsKeepDue : Maybe Next → ℕ → Type 0
-IsKeepDue (Some (acts.Spin n start steps)) value = value ≡ spin_of steps
-IsKeepDue (Some (acts.Got n start reply)) value = value ≡ value_of reply
-IsKeepDue _ value = ⊥
+IsKeepDue = IsKeepDueWith spin_of
 
 -- a look at the source of the leaf that is to call, by the source of each leaf: the leaf has one
 abbrev pub IsSourceDue : (ℕ → Maybe ℕ) → Maybe Next → Type 0

@@ -208,7 +208,7 @@ module _ (job : CoreJob) (room : ℕ) (laws : Laws job) (slots id : ℕ) (v : Vi
       )
 
   -- a value is kept
-  pub keeps_value : (i n start x : ℕ) → i ≡ value_at P N n → v.own.task ≡ Started n start → n < N → value_in (job.act (leaf_of (job.plan.kind n))) v.own.call ≡ Some x → v.own.call ≢ Out
+  pub keeps_value : (i n start x : ℕ) → i ≡ value_at P N n → v.own.task ≡ Started n start → n < N → value_in job.work (job.act (leaf_of (job.plan.kind n))) v.own.call ≡ Some x → v.own.call ≢ Out
       → StepRefines job room slots id (v, xs) i (λ y. x) (λ y. kept (step slots i x 0 none) (v, xs) x) (MakesEvent job k (Keep n start x))
   keeps_value i n start x at task below is inside t o wide me fits =
       let s = o.state in
@@ -219,7 +219,7 @@ module _ (job : CoreJob) (room : ℕ) (laws : Laws job) (slots id : ℕ) (v : Vi
         keeps,
         tt,
         job_step job room laws t o id k v w (set t.words i x) (Keep n start x) s.node s.mark (put s.value n (Some x)) s.tick (put s.call k NotCalled) (Kept n start)
-            record { worker_in = m.0; needs = (is_free job s k o.parts (outside t o me inside), m.1.task ∙ task, ap (value_in (job.act (leaf_of (job.plan.kind n)))) m.1.call ∙ is); does = refl }
+            record { worker_in = m.0; needs = (is_free job s k o.parts (outside t o me inside), m.1.task ∙ task, ap (value_in job.work (job.act (leaf_of (job.plan.kind n)))) m.1.call ∙ is); does = refl }
             me from to enrolled (outside t o me inside) inside' (same w refl refl refl refl refl refl refl refl refl refl refl) record { events = refl; stops = refl; found = refl; misses = refl; stopped = refl }
             (get_or-set_other t.words i (stop_at P) x 0 (λ e. omega arith)) refl (put_at s.call k k NotCalled refl) (λ z ne. put_other s.call k z NotCalled ne) (λ done. done)
             (subst (λ (j : ℕ). WordsShow P N (set t.words j x) s.node s.mark (put s.value n (Some x)) s.status s.hold s.tick (length s.book)) (sym at)

@@ -28,7 +28,7 @@ returns-clause-calls c key sound slots id k v xs is =
           let both = sym value.2 ∙ task in
           let at : value.0 ≡ n = cc in
           nodes.keeps_value job room laws slots id v xs k is.worker is.to is.workers is.enrolled is.job _ n start x refl task (started_in job v.own.task n start task is.task)
-          (subst (λ (y : ℕ). value_in (job.act (leaf_of (job.plan.kind y))) v.own.call ≡ Some x) at value.3) inside;
+          (subst (λ (y : ℕ). value_in job.work (job.act (leaf_of (job.plan.kind y))) v.own.call ≡ Some x) at value.3) inside;
       finish = λ n event due inside. nodes.finishes job room laws slots id v xs k is.worker is.to is.workers is.enrolled is.job n event is.task due inside;
       arrive = λ p l r n due inside. nodes.arrives job room laws slots id v xs k is.worker is.to is.workers is.enrolled is.job _ p l r n refl is.task due inside;
       post = λ n start call task due.

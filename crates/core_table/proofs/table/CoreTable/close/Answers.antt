@@ -8,6 +8,7 @@ use Rattle.sp_order.specs.Preorder.{nodes_of}
 use Rattle.batch_history.specs.declared.report.Report.{Report}
 use Rattle.core_model.specs.Reports.{IsRunShape}
 use Rattle.table_rule.specs.Shows.{reserved, room_of, job_of}
+use Rattle.seq_objects.specs.Spin.{spin_of}
 use Rattle.core_table.proofs.CloseLemmas.Closes.{closes}
 use Rattle.core_table.proofs.CloseLemmas.Reported.{Reported, reported}
 use Rattle.core_table.proofs.CloseLemmas.LastRows.{leaf_in}
@@ -40,10 +41,10 @@ returns c =
     (rw c.of.ensures (c.read_rows-rows.ensures.leaves ∙ ap (λ (n : ℕ). range_with_len 0 n) total)) (rw c.of.ensures told) inside
     (λ s parts over leaf low. c.done_leaves_have_run.ensures job tree s stands parts over leaf low) in
     record {
-      lawful = c.done_report_is_lawful.ensures self.setting.job self.setting.workers r.run.last.state _ self.shape self.acts.0 r.parts r.run.over r.run.reports;
+      lawful = c.done_report_is_lawful.ensures spin_of self.setting.job self.setting.workers r.run.last.state _ self.shape self.acts.0 r.parts r.run.over r.run.reports;
       told = (r.table, r.told, (r.seat, r.at));
       run = (r.run, r.own);
-      model = subst (λ (shape : Option Tree). IsRunShape shape self.setting.job self.setting.workers report) (sym self.shape) r.run;
+      model = subst (λ (shape : Option Tree). IsRunShape spin_of shape self.setting.job self.setting.workers report) (sym self.shape) r.run;
       seen = r.seen;
     }
 

@@ -20,5 +20,5 @@ store-requires c =
       omega (arith, self.sized.0, c.value-at.ensures, c.layout.ensures.workers, c.layout.ensures.nodes, self.key.1, below),
       rw (self.key.0, c.value-at.ensures, c.layout.ensures.workers, c.layout.ensures.nodes) (λ a b d e f. let x = (keeps_value job (room_of self.setting) laws _ _ v pass.seat.me.1 pass.worker pass.number.0 pass.number.1 c.requires.pass.2 c.requires.pass.4 c.requires.pass.9
           _ n c.in-Started.start c.args.value (omega (arith, self.key.1)) (pass.own.0 ∙ c.in-Started.is) below
-          (subst (λ (y : ℕ). value_in (job.act (leaf_of (job.plan.kind y))) v.own.call ≡ Some c.args.value) same due.3) c.requires.free) a b d e f in (x.0, x.1, x.2, x.3.0, x.4)),
+          (subst (λ (y : ℕ). value_in job.work (job.act (leaf_of (job.plan.kind y))) v.own.call ≡ Some c.args.value) same due.3) c.requires.free) a b d e f in (x.0, x.1, x.2, x.3.0, x.4)),
     )

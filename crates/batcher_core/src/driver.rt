@@ -16,8 +16,8 @@ use leaf_work::{LeafWork, Spin, WorkBrand};
 use sp_order::laws::plan_stands_for_tree;
 use std::alloc::{AllocError, Global};
 
-/// One turn of a worker of a core that is not over. Work that is due is done within the turn, by `work`. Returns whether the core
-/// is over now.
+/// One turn of a worker of a core that is not over. Work that is due is done within the turn, by `work`. Returns
+/// whether the core is over now.
 #[inline(always)]
 fn take_turn<B: WorkBrand, W: LeafWork>(
     core: &mut CoreWith<B>,

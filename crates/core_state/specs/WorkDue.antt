@@ -16,6 +16,6 @@ steps_of (Some act) = None
 abbrev pub work_due : CoreJob → Task → CallState → Option ℕ
 work_due job task call = steps_of (next_act job task call)
 
--- if work of this many steps is due, the value is given, and is that of the work, where the leaves of work compute `work`
+-- If work is due, this is its value, where the leaves of work compute `work`.
 abbrev pub IsValueOf : (ℕ → ℕ) → Option ℕ → Option ℕ → Type 0
 IsValueOf work due value = (steps : ℕ) → due ≡ Some steps → value ≡ Some (work steps)

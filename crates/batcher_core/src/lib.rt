@@ -1,10 +1,10 @@
 //! The core of the scheduler on one thread: a job with its state, and the run by turns.
 //!
 //! `drive` takes turns until the root is done, and `report` makes the rows of the report. `run_by_turns_with` runs a job
-//! whose leaves of work run a function of the caller's. The rules and the laws of all
-//! runs are in `core_model`, and the state and its turns in `core_state`. The crate also builds on `launch_batch`,
-//! whose shop is part of the state, and on `sp_order`, `batch_history` and `seq_objects` for nodes, books and
-//! operations.
+//! whose leaves of work run a function of the caller's. The rules and the laws of all runs are in `core_model`, and the
+//! state and its turns in `core_state`. The crate also builds on `launch_batch`, whose shop is part of the state, on
+//! `leaf_work`, which says what leaves of work compute, and on `sp_order`, `batch_history` and `seq_objects` for nodes,
+//! books and operations.
 #![tactic(auto)]
 
 pub mod driver;

@@ -1,0 +1,2 @@
+-- The serial runs of a job's calls.
+pub mod SerialRuns

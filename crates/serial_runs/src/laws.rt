@@ -1,0 +1,13 @@
+//! The law of serial runs. It is the contract of a function that does nothing.
+ghost use Rattle.std.specs.Prelude.{ℕ};
+ghost use Rattle.batch_history.specs.Book.{flat};
+ghost use Rattle.batch_history.specs.Lawful.{Lawful};
+ghost use Rattle.batch_history.specs.declared.report.Report.{Report};
+ghost use Rattle.serial_runs.specs.SerialRuns.{IsSerialRun};
+ghost use Rattle.sp_order.specs.Jobs.{JobValue};
+
+/// The calls of a lawful report, batch after batch, are a serial run of the job's calls.
+pub fn lawful_reports_are_serial()
+    ensures { (job : JobValue) (workers : ℕ) (report : Report) → Lawful job workers report
+        → IsSerialRun job (flat report.history) }
+{}

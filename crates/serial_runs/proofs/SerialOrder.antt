@@ -75,7 +75,7 @@ no_row : Row
 no_row = record { leaf = 0; worker = 0; start = 0; end = 0; value = 0 }
 
 -- the reply that a leaf uses is that of a call
-found_reply : (book : List (List Entry)) (source : ℕ) (place : Place) → place_of book source ≡ Some place → IsReplyTo (flat book) source place.entry.reply
+pub found_reply : (book : List (List Entry)) (source : ℕ) (place : Place) → place_of book source ≡ Some place → IsReplyTo (flat book) source place.entry.reply
 found_reply book source place at =
     let found = found_in_book (Contains (flat book)) book source place (each_contained (Contains (flat book)) (flat book) (λ e c. c)) at in
     record { call = place.entry; made = found.0; of_leaf = found.1; replied = refl }

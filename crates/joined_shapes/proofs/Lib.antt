@@ -1,0 +1,5 @@
+pub mod Leaves
+pub mod Joined
+pub mod Nesting
+pub mod Precedence
+pub mod Stepping

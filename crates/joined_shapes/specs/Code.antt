@@ -1,0 +1,3 @@
+-- How the code keeps open blocks.
+pub mod Steps
+pub mod Joining

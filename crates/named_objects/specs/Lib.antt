@@ -1,0 +1,2 @@
+-- Objects with names, as contracts see them.
+pub mod Objects

@@ -15,7 +15,7 @@ pub from_push : (blocks : Blocks) (steps : List Step) (step : Step) → blocks_f
 from_push blocks [] step = refl
 from_push blocks (first ∷ steps) step = from_push (stepped blocks first) steps step
 
-closed_leaves : (inner : Block) (around : List Block) (count : ℕ) → (closed_in inner around count).leaves ≡ count
+pub closed_leaves : (inner : Block) (around : List Block) (count : ℕ) → (closed_in inner around count).leaves ≡ count
 closed_leaves inner [] count = refl
 closed_leaves inner (block ∷ around) count = refl
 

@@ -75,7 +75,10 @@ fn run_schedule<B: WorkBrand, W: LeafWork>(
 }
 
 /// Takes turns by all workers round robin, from worker 0 on, until the core is over.
-fn run_round_robin<B: WorkBrand, W: LeafWork>(core: &mut CoreWith<B>, work: &W) -> Result<(), AllocError>
+fn run_round_robin<B: WorkBrand, W: LeafWork>(
+    core: &mut CoreWith<B>,
+    work: &W,
+) -> Result<(), AllocError>
     requires meaning { W.meaning work.now ≡ B.work }
     ensures job { IfOk result (λ _. (core.new.job ≡ core.old.job)
         × (core.new.workers ≡ core.old.workers)) }

@@ -114,7 +114,11 @@ impl<B: WorkBrand> CoreWith<B> {
 
     /// The value of the work that a worker has due, if it has some. The work is done here, by `work`.
     #[inline(always)]
-    pub(crate) fn do_due<W: LeafWork>(&self, worker: u32, work: &W) -> Result<Option<u64>, AllocError>
+    pub(crate) fn do_due<W: LeafWork>(
+        &self,
+        worker: u32,
+        work: &W,
+    ) -> Result<Option<u64>, AllocError>
         requires worker_in { worker < self.now.workers }
         requires meaning { W.meaning work.now ≡ B.work }
         ensures { IfOk result (λ value. IsValueOf B.work (due_in self.now worker) value) }
@@ -172,7 +176,10 @@ impl<B: WorkBrand> CoreWith<B> {
         let Some(event) = self.choice(worker, work) else {
             return Ok(Turn::Idle);
         };
-        match self.table.apply::<B>(self.alloc, &self.setting, worker, event) {
+        match self
+            .table
+            .apply::<B>(self.alloc, &self.setting, worker, event)
+        {
             Ok(()) => Ok(Turn::Moved),
             Err(error) => {
                 self.spent = true;

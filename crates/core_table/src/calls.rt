@@ -17,8 +17,8 @@ ghost use Rattle.table_rule.specs.Views.{with_step, with_miss, with_post};
 ghost use Rattle.table_rule.specs.Words.{flag_at};
 ghost use Rattle.table_rule.specs.Plays.{IsNewCall};
 
-use crate::table::{CoreTable, Pass};
 use crate::rotation::{index_of, rotate_by};
+use crate::table::{CoreTable, Pass};
 use batch_history::Batch;
 use core_model::{CallState, Receipt};
 use launch_batch::Shop;
@@ -129,8 +129,7 @@ impl CoreTable {
     {
         self.laws_hold();
         let shared = &self.table.shared;
-        let seen =
-            shared.compare_exchange::<Take>(&mut pass.seat, u as usize, PENDING, EXECUTING);
+        let seen = shared.compare_exchange::<Take>(&mut pass.seat, u as usize, PENDING, EXECUTING);
         if seen != PENDING {
             return None;
         }

@@ -75,7 +75,8 @@ pub fn is_spelled(text: &[u8]) -> bool
 {
     match text {
         [] => false,
-        [first, rest @ ..] => is_letter(*first) && (rest.len() < MOST_NAME_BYTES && are_in_name(rest)),
+        [first, rest @ ..] => is_letter(*first)
+            && (rest.len() < MOST_NAME_BYTES && are_in_name(rest)),
     }
 }
 

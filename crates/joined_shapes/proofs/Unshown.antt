@@ -50,7 +50,7 @@ in_block inner [] u v begins low h = subst (λ n. IsBeforeIn (is_series inner.or
 in_block inner (block ∷ around) u v begins low h =
     let from = begins_behind inner block around begins in
     let whole : IsBeforeIn (is_series block.order) block.first (block.items ++ joined inner) u v =
-        in_block (with_items block (joined inner)) around u v begins.1 (omega (arith, low, from)) h in
+    in_block (with_items block (joined inner)) around u v begins.1 (omega (arith, low, from)) h in
     subst (λ n. IsBeforeIn (is_series inner.order) n inner.items u v) (sym from)
     (before_joined inner.order (is_series block.order) inner.items (block.first + total block.items) u v
     (behind (is_series block.order) block.first block.items (joined inner) u v (omega (arith, low, from)) whole))
@@ -60,7 +60,7 @@ shown_late : (order : Order) (first : ℕ) (xs ys : List Tree) (around : List Bl
 shown_late order first xs ys around u v begins early late low h =
     let on : nat_le first u ≡ true = grind (arith, nat_tests) in
     let series : is_series order ≡ true =
-        crossed (is_series order) first xs ys u v early late (in_block (record { order = order; first = first; items = xs ++ ys }) around u v begins low h) in
+    crossed (is_series order) first xs ys u v early late (in_block (record { order = order; first = first; items = xs ++ ys }) around u v begins low h) in
     ap (λ b. if b then is_series order else shows around u) on ∙ series
 
 shown_if : (order : Order) (first : ℕ) (xs ys : List Tree) (around : List Block) (u v : ℕ) → BeginsAt first around → u < first + total xs → first + total xs ≤ v

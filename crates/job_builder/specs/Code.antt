@@ -1,0 +1,2 @@
+-- What is true of each draft.
+pub mod Kept

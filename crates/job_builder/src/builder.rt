@@ -223,12 +223,7 @@ impl Builder {
 
     /// Adds a call of the object of its kind with this name. Its argument is the reply of an earlier call, whatever number
     /// the operation carries.
-    pub fn call_on_with(
-        &mut self,
-        name: Name,
-        op: Op,
-        used: Handle,
-    ) -> Result<Handle, BuildError>
+    pub fn call_on_with(&mut self, name: Name, op: Op, used: Handle) -> Result<Handle, BuildError>
         requires number { number_of op ≡ 0 }
         requires argument { has_argument op ≡ true }
         requires name { IsSpelledName name }

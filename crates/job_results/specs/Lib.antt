@@ -1,0 +1,2 @@
+-- The results of a run, as contracts see them.
+pub mod Results

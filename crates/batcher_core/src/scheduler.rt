@@ -153,7 +153,7 @@ impl<B: WorkBrand> CoreWith<B> {
             → choice (job_in_with B.work self.now) (state_in self.now) worker ≡ None }
         ensures spent { IsTrue result → self.now.spent ≡ false }
     {
-        !self.spent && self.table.is_certainly_idle(&self.setting, worker)
+        !self.spent && self.table.is_certainly_idle::<B>(&self.setting, worker)
     }
 
     /// Performs the event of a worker's turn, if it has one. `work` is the value of the work that is due, if some is.

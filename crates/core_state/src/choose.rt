@@ -1,6 +1,6 @@
 //! The choice of a worker's turn: the event it can make in this state, if any. Nothing is written here.
 ghost use Rattle.std.specs.Prelude.{◌≡◌, ◌<◌, length, None, IsTrue};
-ghost use Rattle.core_model.specs.Settings.{job_of, job_with};
+ghost use Rattle.core_model.specs.Settings.{job_with};
 ghost use Rattle.core_model.specs.Choice.{choice, choice_by, choice_free};
 ghost use Rattle.core_state.specs.Abstraction.{state_of, core_state_of};
 ghost use Rattle.core_state.specs.Code.Lookups.{CanChoose, IsWorkOf};
@@ -66,11 +66,11 @@ impl State {
     /// Memory: none.
     #[inline(always)]
     #[tactic(auto, unfolding(crate::specs::Abstraction::state_of, crate::specs::Abstraction::ready_of))]
-    pub fn is_certainly_idle(&self, setting: &Setting, worker: u32) -> bool
+    pub fn is_certainly_idle<B: WorkBrand>(&self, setting: &Setting, worker: u32) -> bool
         requires worker_in { worker < setting.now.workers }
         requires tasks_in { length self.now.tasks.items ≡ setting.now.workers }
         requires statuses_in { length self.now.statuses.items ≡ setting.now.workers }
-        ensures { IsTrue result → choice (job_of setting.now) (core_state_of self.now) worker ≡ None }
+        ensures { IsTrue result → choice (job_with B.work setting.now) (core_state_of self.now) worker ≡ None }
     {
         if let Some(hold) = &self.hold {
             if hold.worker == worker {

@@ -116,14 +116,7 @@ fn start_and_run<
     W: LeafWork + Sync,
     R: Threads + Wait + Sync,
     G: Pause + Sync,
->(
-    rt: &R,
-    alloc: Global,
-    job: &Job,
-    workers: u32,
-    work: &W,
-    pause: &G,
-) -> Result<Report, AllocError>
+>(rt: &R, alloc: Global, job: &Job, workers: u32, work: &W, pause: &G) -> Result<Report, AllocError>
     requires leaves { IsSome job.now.shape }
     requires some_workers { 0 < workers }
     requires few_workers { workers ≤ MOST_WORKERS }

@@ -28,3 +28,14 @@ impl From<AllocError> for BuildError {
         BuildError::Memory
     }
 }
+
+impl<T: Drop> From<AllocFailed<T>> for BuildError {
+    ghost use Rattle.job_builder.specs.declared.error.BuildError.TheVariants.{Memory};
+    ghost use Rattle.std.specs.Prelude.{◌≡◌};
+
+    ghost from_gives = { λ _ e. e ≡ Memory };
+
+    fn from(_refused: AllocFailed<T>) -> BuildError {
+        BuildError::Memory
+    }
+}

@@ -1,6 +1,5 @@
 -- The calls of a lawful report: how many there are, and that each leaf that calls has a place.
-use Rattle.std.proofs.Common.{◌≡◌, ◌≢◌, ℕ, ◌+◌, ◌<◌, ◌≤◌, List, [], ◌∷◌, ◌++◌, length, map, Option, Some, None, arith, length-append}
-use Rattle.std.specs.Prelude.{slice_get, Contains}
+use Rattle.std.proofs.Common.{◌≢◌, ℕ, ◌<◌, ◌≤◌, List, [], ◌∷◌, length, map, None, arith, length-append}
 use Rattle.std.specs.List.{AllByRecursion}
 use Rattle.std.proofs.lemmas.List.{length-map}
 use Rattle.std.proofs.lemmas.Map.Steps.{length-le_from_distinct_below}
@@ -43,7 +42,7 @@ module _ (job : JobValue) (workers : ℕ) (report : Report) (lawful : Lawful job
   pub few_calls : length (flat report.history) ≤ length job.acts
   few_calls =
       let below : AllByRecursion (λ leaf. leaf < length job.acts) callers =
-          each_so (IsCallLeaf job.acts) (λ leaf. leaf < length job.acts) (call_below job.acts) callers lawful.calls.leaves.only in
+      each_so (IsCallLeaf job.acts) (λ leaf. leaf < length job.acts) (call_below job.acts) callers lawful.calls.leaves.only in
       let few = length-le_from_distinct_below callers (length job.acts) (distinct_tests callers lawful.calls.leaves.distinct) (λ q. found_below (length job.acts) q callers below) in
       omega (arith, few, length-map (flat report.history) (λ (entry : Entry). entry.leaf))
 

@@ -28,5 +28,5 @@ unreachable-requires c =
     let f = c.self.inside in
     let call = subst (λ (r : RanValue). IsCallLeaf r.job.acts c.args.handle.leaf) (sym c.self.view_is) c.requires in
     let none : place_of f.report.history c.args.handle.leaf ≡ None =
-        sym (λ i. place_of (c.batches.ensures.batches i) (c.leaf.ensures i)) ∙ sym c.place_of.ensures ∙ c.in-None.is in
+    sym (λ i. place_of (c.batches.ensures.batches i) (c.leaf.ensures i)) ∙ sym c.place_of.ensures ∙ c.in-None.is in
     has_place f.job f.report.workers f.report c.self.invariant c.args.handle.leaf call none

@@ -6,7 +6,6 @@ use Rattle.job_results.specs.Results.{RanValue, value_in}
 use Rattle.job_results.proofs.Values.{row_is_there, value_read, work_read}
 use Rattle.job_results.proofs.ran.Ran.value_of.Goals as goal
 
-
 pub bounds-list-leaf : goal.bounds-list-leaf
 bounds-list-leaf c =
     let f = c.self.inside in

@@ -1,0 +1,2 @@
+pub mod SumJobs
+pub mod SumReplies

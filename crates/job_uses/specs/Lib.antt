@@ -1,0 +1,2 @@
+-- The jobs of the programs.
+pub mod Sums

@@ -42,10 +42,10 @@ returns-then-node-self-clause-refused c denied =
       ap (λ (m : SeatState). m.0) t.3 ∙ ap (λ (n : ℕ). with_miss t.0 (refusing n) c.args.pass.now.seat.me.0) (sym same),
     )
 
-pub returns-then-compare_exchange-ne1-clause-refused : goal.returns-then-compare_exchange-ne1-clause-refused
-returns-then-compare_exchange-ne1-clause-refused c denied =
+pub returns-then-compare_exchange-ne-READY-clause-refused : goal.returns-then-compare_exchange-ne-READY-clause-refused
+returns-then-compare_exchange-ne-READY-clause-refused c denied =
     let self = c.args.self.now in let pass = c.args.pass.now in
-    let ne = c.if-compare_exchange-ne1.true in
+    let ne = c.if-compare_exchange-ne-READY.true in
     let place = c.node-at.ensures ∙ ap (λ (w : ℕ). node_at w c.args.node) c.layout.ensures.workers in
     let (node, is, won, lost) = c.compare_exchange-2.ensures.2 in
     let t = lost ne in

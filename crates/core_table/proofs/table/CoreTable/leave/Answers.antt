@@ -25,13 +25,13 @@ compare_exchange-seen-requires c =
 
 pub exchange-requires : goal.exchange-requires
 exchange-requires c =
-    let t = c.compare_exchange-seen.ensures.2.0 c.if-seen-ne3.false in
+    let t = c.compare_exchange-seen.ensures.2.0 c.if-seen-ne-SERVED.false in
     (c.compare_exchange-seen.ensures.0 ∙ c.requires.pass.0, (Slots.Receipt t.1, first _ _ _ _ _ t.5.4))
 
 pub returns-clause-left : goal.returns-clause-left
 returns-clause-left c =
     let old = c.args.pass.now.seat in let k = c.args.pass.now.worker in
-    let (call, receipt, posted, before, soon, (book, front, op, stands, is)) = c.compare_exchange-seen.ensures.2.0 c.if-seen-ne3.false in
+    let (call, receipt, posted, before, soon, (book, front, op, stands, is)) = c.compare_exchange-seen.ensures.2.0 c.if-seen-ne-SERVED.false in
     let w = with_step (leaving call receipt book) old.me.0 in
     let found = found_slot c.compare_exchange-seen.new.seat.me w k c.exchange.result (Slots.Receipt receipt) old.me.1 _ is c.exchange.ensures.2 in
     let same : receipt ≡ c.in-Receipt.receipt = receipts receipt c.in-Receipt.receipt (found ∙ c.in-Receipt.is) in
@@ -48,7 +48,7 @@ returns-clause-left c =
       soon,
     )
 
-pub returns-then-seen-ne3-clause-stays : goal.returns-then-seen-ne3-clause-stays
-returns-then-seen-ne3-clause-stays c =
-    let ne = c.if-seen-ne3.true in let t = c.compare_exchange-seen.ensures.2.1 ne in
+pub returns-then-seen-ne-SERVED-clause-stays : goal.returns-then-seen-ne-SERVED-clause-stays
+returns-then-seen-ne-SERVED-clause-stays c =
+    let ne = c.if-seen-ne-SERVED.true in let t = c.compare_exchange-seen.ensures.2.1 ne in
     (t.0, (ne, t.2, miss_told c.args.self.now c.args.pass.now _ _ t.0 c.requires.pass (sym c.args.pass.now.number.0) t.1), ap (λ (m : SeatState). m.0) t.3)

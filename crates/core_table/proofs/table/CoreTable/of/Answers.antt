@@ -12,6 +12,7 @@ use Rattle.table_rule.specs.Views.{rest_from}
 use Rattle.table_rule.proofs.TableLemmas.Moved.{few_nodes}
 use Rattle.table_rule.proofs.StepLemmas.Starts.{starts, cuts_at, enrols_at}
 use Rattle.core_table.proofs.PassLemmas.NewPass.{each_push, new_pass, unset_seat}
+use Rattle.seq_objects.specs.Spin.{spin_of}
 use Rattle.core_table.proofs.table.CoreTable.of.Goals as goal
 
 -- there is an act for each leaf
@@ -22,14 +23,14 @@ pub opening_words-requires : goal.opening_words-requires
 opening_words-requires c =
     let setting = c.args.setting in let job = job_of setting in
     let nodes : c.nodes-nodes.result ≡ job.plan.count = c.nodes-nodes.ensures.nodes in
-    let laws = c.laws_hold.ensures setting (few_nodes c.nodes-nodes.result job.plan.count nodes c.nodes-nodes.ensures.most) (all_acts c.nodes-nodes.ensures.shape c.nodes-nodes.ensures.job) c.nodes-nodes.ensures.job.most (c.job_has_its_sources.ensures setting.job setting.workers c.nodes-nodes.ensures.job) in
+    let laws = c.laws_hold.ensures setting (few_nodes c.nodes-nodes.result job.plan.count nodes c.nodes-nodes.ensures.most) (all_acts c.nodes-nodes.ensures.shape c.nodes-nodes.ensures.job) c.nodes-nodes.ensures.job.most (c.job_has_its_sources.ensures spin_of setting.job setting.workers c.nodes-nodes.ensures.job) in
     let root = laws.root in (c.requires.workers.1, omega (arith, root, nodes), c.nodes-nodes.ensures.most)
 
 pub invariant_of-result : goal.invariant_of-result
 invariant_of-result c =
     let setting = c.args.setting in let job = job_of setting in let i = c.loop-worker.invariant in
     let nodes : c.nodes-nodes.result ≡ job.plan.count = c.nodes-nodes.ensures.nodes in
-    let laws = c.laws_hold.ensures setting (few_nodes c.nodes-nodes.result job.plan.count nodes c.nodes-nodes.ensures.most) (all_acts c.nodes-nodes.ensures.shape c.nodes-nodes.ensures.job) c.nodes-nodes.ensures.job.most (c.job_has_its_sources.ensures setting.job setting.workers c.nodes-nodes.ensures.job) in
+    let laws = c.laws_hold.ensures setting (few_nodes c.nodes-nodes.result job.plan.count nodes c.nodes-nodes.ensures.most) (all_acts c.nodes-nodes.ensures.shape c.nodes-nodes.ensures.job) c.nodes-nodes.ensures.job.most (c.job_has_its_sources.ensures spin_of setting.job setting.workers c.nodes-nodes.ensures.job) in
     let root = laws.root in record {
       key = (i.key, nodes);
       sized = (i.words, i.slots);
@@ -42,7 +43,7 @@ pub new-requires : goal.new-requires
 new-requires c =
     let setting = c.args.setting in let job = job_of setting in let workers = setting.workers in
     let nodes : c.nodes-nodes.result ≡ job.plan.count = c.nodes-nodes.ensures.nodes in
-    let laws = c.laws_hold.ensures setting (few_nodes c.nodes-nodes.result job.plan.count nodes c.nodes-nodes.ensures.most) (all_acts c.nodes-nodes.ensures.shape c.nodes-nodes.ensures.job) c.nodes-nodes.ensures.job.most (c.job_has_its_sources.ensures setting.job workers c.nodes-nodes.ensures.job) in
+    let laws = c.laws_hold.ensures setting (few_nodes c.nodes-nodes.result job.plan.count nodes c.nodes-nodes.ensures.most) (all_acts c.nodes-nodes.ensures.shape c.nodes-nodes.ensures.job) c.nodes-nodes.ensures.job.most (c.job_has_its_sources.ensures spin_of setting.job workers c.nodes-nodes.ensures.job) in
     let are = c.deref.ensures.value ∙ (c.in_ok-words.ensures ∙ ap (λ (n : ℕ). set (replicate (word_count workers n) 0) (node_at workers 0) 1) nodes) in
     let room = c.count_calls-room.ensures workers in
     rw (c.in_ok-slots.ensures, room) (starts job (room_of setting) setting.job laws c.deref.result.now are)

@@ -28,13 +28,13 @@ compare_exchange-seen-requires c =
 
 pub exchange-slot-requires : goal.exchange-slot-requires
 exchange-slot-requires c =
-    let e = c.compare_exchange-seen.ensures.2 in let t = e.3 c.if-seen-ne1.false in
+    let e = c.compare_exchange-seen.ensures.2 in let t = e.3 c.if-seen-ne-PENDING.false in
     (c.compare_exchange-seen.ensures.0 ∙ c.requires.pass.0, (Slots.Record t.0, first _ _ _ _ _ t.3))
 
-pub returns-then-seen-ne1-clause-pass : goal.returns-then-seen-ne1-clause-pass
-returns-then-seen-ne1-clause-pass c =
+pub returns-then-seen-ne-PENDING-clause-pass : goal.returns-then-seen-ne-PENDING-clause-pass
+returns-then-seen-ne-PENDING-clause-pass c =
     let old = c.args.pass.now.seat in let e = c.compare_exchange-seen.ensures.2 in
-    let t = e.4 c.if-seen-ne1.true in
+    let t = e.4 c.if-seen-ne-PENDING.true in
     let w = with_miss t.0 (skipping c.args.u c.compare_exchange-seen.result) old.me.0 in
     let out : old.me.0.own.call ≡ Out = held_out c.args.pass.now.worker old.me e.0 c.requires.pass.7 e.1 in
     pass_made c.args.self.now.setting _ c.args.pass.now.worker old c.compare_exchange-seen.new.seat w old.me.1 c.compare_exchange-seen.ensures.0 t.3 refl refl refl refl refl refl
@@ -45,7 +45,7 @@ returns-then-seen-ne1-clause-pass c =
 pub returns-clause-pass : goal.returns-clause-pass
 returns-clause-pass c =
     let old = c.args.pass.now.seat in let u = c.args.u in
-    let e = c.compare_exchange-seen.ensures.2 in let t = e.3 c.if-seen-ne1.false in
+    let e = c.compare_exchange-seen.ensures.2 in let t = e.3 c.if-seen-ne-PENDING.false in
     let w = with_step (taking (call_by u t.0)) old.me.0 in
     let out : old.me.0.own.call ≡ Out = held_out c.args.pass.now.worker old.me e.0 c.requires.pass.7 e.1 in
     let emptied = swapped _ _ w u (Slots.Record t.0) Slots.Vacant old.me.1 t.3 c.exchange-slot.ensures.3 in
@@ -71,7 +71,7 @@ push_reserved-requires c =
 pub returns-clause-took : goal.returns-clause-took
 returns-clause-took c =
     let old = c.args.pass.now.seat in let u = c.args.u in
-    let e = c.compare_exchange-seen.ensures.2 in let t = e.3 c.if-seen-ne1.false in
+    let e = c.compare_exchange-seen.ensures.2 in let t = e.3 c.if-seen-ne-PENDING.false in
     let w = with_step (taking (call_by u t.0)) old.me.0 in
     let found = found_slot c.compare_exchange-seen.new.seat.me w u c.exchange-slot.result (Slots.Record t.0) old.me.1 _ t.3 c.exchange-slot.ensures.2 in
     let same : t.0 ≡ c.in-Record.call = same_record t.0 c.in-Record.call (found ∙ c.in-Record.is) in
@@ -85,7 +85,7 @@ returns-clause-took c =
       ap (λ (m : SeatState). m.0) last,
     )
 
-pub returns-then-seen-ne1-clause-passed : goal.returns-then-seen-ne1-clause-passed
-returns-then-seen-ne1-clause-passed c =
-    let ne = c.if-seen-ne1.true in let t = c.compare_exchange-seen.ensures.2.4 ne in
+pub returns-then-seen-ne-PENDING-clause-passed : goal.returns-then-seen-ne-PENDING-clause-passed
+returns-then-seen-ne-PENDING-clause-passed c =
+    let ne = c.if-seen-ne-PENDING.true in let t = c.compare_exchange-seen.ensures.2.4 ne in
     (t.0, (ne, t.2, miss_told c.args.self.now c.args.pass.now _ _ t.0 c.requires.pass refl t.1), ap (λ (m : SeatState). m.0) t.3)

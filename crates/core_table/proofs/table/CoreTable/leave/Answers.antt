@@ -51,4 +51,4 @@ returns-clause-left c =
 pub returns-then-seen-ne-SERVED-clause-stays : goal.returns-then-seen-ne-SERVED-clause-stays
 returns-then-seen-ne-SERVED-clause-stays c =
     let ne = c.if-seen-ne-SERVED.true in let t = c.compare_exchange-seen.ensures.2.1 ne in
-    (t.0, (ne, t.2, miss_told c.args.self.now c.args.pass.now _ _ t.0 c.requires.pass (sym c.args.pass.now.number.0) t.1), ap (λ (m : SeatState). m.0) t.3)
+    (t.0, ((λ e. ne (sym t.2 ∙ e)), miss_told c.args.self.now c.args.pass.now _ _ t.0 c.requires.pass (sym c.args.pass.now.number.0) t.1), ap (λ (m : SeatState). m.0) t.3)

@@ -87,5 +87,8 @@ returns-clause-took c =
 
 pub returns-then-seen-ne-PENDING-clause-passed : goal.returns-then-seen-ne-PENDING-clause-passed
 returns-then-seen-ne-PENDING-clause-passed c =
-    let ne = c.if-seen-ne-PENDING.true in let t = c.compare_exchange-seen.ensures.2.4 ne in
-    (t.0, (ne, t.2, miss_told c.args.self.now c.args.pass.now _ _ t.0 c.requires.pass refl t.1), ap (λ (m : SeatState). m.0) t.3)
+    let ne = c.if-seen-ne-PENDING.true in let t = c.compare_exchange-seen.ensures.2.4 ne in (
+      t.0,
+      ((λ e. ne (sym t.2 ∙ e)), miss_told c.args.self.now c.args.pass.now _ _ t.0 c.requires.pass refl t.1),
+      ap (λ (m : SeatState). m.0) t.3 ∙ ap (λ (n : ℕ). with_miss t.0 (skipping c.args.u n) c.args.pass.now.seat.me.0) (sym t.2),
+    )

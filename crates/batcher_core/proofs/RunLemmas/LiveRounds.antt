@@ -22,7 +22,7 @@ pub round_end : (workers i : ℕ) → 0 < workers → i ≡ workers → i % work
 round_end workers i some end = ap (λ (n : ℕ). n % workers) (end ∙ sym (zero-add workers)) ∙ (add-mod_right 0 workers ∙ mod-eq_of_lt some)
 
 -- the turn of worker `i` of the round, or its being passed over
-module _ {work : ℕ → ℕ} (first core next : CoreView) (live : ℕ → Bool) (same : SameJob first core) (more : is_over_in core ≡ false) (unspent : core.spent ≡ false) (i : ℕ) (below : i < first.workers) where
+module _ (work : ℕ → ℕ) (first core next : CoreView) (live : ℕ → Bool) (same : SameJob first core) (more : is_over_in core ≡ false) (unspent : core.spent ≡ false) (i : ℕ) (below : i < first.workers) where
   at_worker : i % first.workers ≡ i
   at_worker = mod-eq_of_lt below
 

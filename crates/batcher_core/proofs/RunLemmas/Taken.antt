@@ -30,7 +30,7 @@ over_before job s last schedule rest robin done drives = elim (over_or job s las
 ]
 
 -- a turn of a core that goes on, before the turns that are left
-module _ {work : ℕ → ℕ} (first core next : CoreView) (same : SameJob first core) (more : is_over_in core ≡ false) (unspent : core.spent ≡ false) where
+module _ (work : ℕ → ℕ) (first core next : CoreView) (same : SameJob first core) (more : is_over_in core ≡ false) (unspent : core.spent ≡ false) where
   first_turn : (w : ℕ) → IsTurn (job_in_with work core) (state_in core) w (state_in next) → IsTurn (job_in_with work first) (state_in core) w (state_in next)
   first_turn w turn = subst (λ (job : CoreJob). IsTurn job (state_in core) w (state_in next)) (job_same work first core same) turn
 

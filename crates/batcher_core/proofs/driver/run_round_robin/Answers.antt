@@ -22,7 +22,7 @@ loop-over-preserved g c = record {
   below = rw c.next_worker-worker.ensures (mod_below (c.loop-over.worker + 1) c.workers-workers.result c.workers-workers.ensures.some);
   over = c.in_ok-over.ensures.over;
   drives = λ last drives. c.loop-over.invariant.drives last
-      (robin_before c.args.core.now c.loop-over.core c.take_turn.new.core c.loop-over.invariant.job (sym c.loop-over.invariant.over ∙ c.loop-over-test.true) c.in_ok-over.ensures.spent
+      (robin_before g.B.WorkBrand.work c.args.core.now c.loop-over.core c.take_turn.new.core c.loop-over.invariant.job (sym c.loop-over.invariant.over ∙ c.loop-over-test.true) c.in_ok-over.ensures.spent
       c.workers-workers.result c.loop-over.worker c.workers-workers.ensures.workers c.in_ok-over.ensures.turn last (rw c.next_worker-worker.ensures at drives));
   spent = λ _. c.loop-over.invariant.spent c.in_ok-over.ensures.spent;
 }

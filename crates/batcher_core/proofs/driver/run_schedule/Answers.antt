@@ -14,7 +14,7 @@ pub loop-worker-preserved : goal.loop-worker-preserved
 loop-worker-preserved g c = record {
   job = same_since c.args.core.now c.loop-worker.core c.take_turn.new.core c.loop-worker.invariant.job c.in_ok-take_turn.ensures.job;
   drives = λ last drives. c.loop-worker.invariant.drives last
-      (scheduled_before c.args.core.now c.loop-worker.core c.take_turn.new.core c.loop-worker.invariant.job (sym c.is_over.ensures ∙ c.if-is_over.false) c.in_ok-take_turn.ensures.spent
+      (scheduled_before g.B.WorkBrand.work c.args.core.now c.loop-worker.core c.take_turn.new.core c.loop-worker.invariant.job (sym c.is_over.ensures ∙ c.if-is_over.false) c.in_ok-take_turn.ensures.spent
       c.args.schedule.now c.loop-worker.worker-index c.loop-worker-test.true c.in_ok-take_turn.ensures.turn last drives);
   spent = λ _. c.loop-worker.invariant.spent c.in_ok-take_turn.ensures.spent;
 }

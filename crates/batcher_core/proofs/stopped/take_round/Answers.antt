@@ -7,6 +7,7 @@ use Rattle.batcher_core.proofs.ReportLemmas.Reporting.{over_is}
 use Rattle.batcher_core.proofs.RunLemmas.Taken.{same_since}
 use Rattle.core_model.proofs.RunLemmas.LiveRuns.{over_anywhere}
 use Rattle.batcher_core.proofs.RunLemmas.LiveRounds.{round_end, turn_before, passed_before, round_rests, rests_past, lowers_after, rests_after}
+use Rattle.seq_objects.specs.Spin.{spin_of}
 use Rattle.batcher_core.proofs.stopped.take_round.Goals as goal
 
 pub loop-worker-init : goal.loop-worker-init
@@ -36,7 +37,7 @@ loop-worker-preserved-then-not-live-worker c = record {
   job = c.loop-worker.invariant.job;
   unspent = c.loop-worker.invariant.unspent;
   drives = λ last drives. c.loop-worker.invariant.drives last
-      (passed_before c.args.core.now c.loop-worker.core c.loop-worker.core (at c.args.live.now false) c.loop-worker.invariant.job (sym c.is_over.ensures ∙ c.if-is_over.false)
+      (passed_before spin_of c.args.core.now c.loop-worker.core c.loop-worker.core (at c.args.live.now false) c.loop-worker.invariant.job (sym c.is_over.ensures ∙ c.if-is_over.false)
       c.loop-worker.invariant.unspent c.loop-worker.worker (subst (λ n. c.loop-worker.worker < n) c.workers-worker-end.ensures.workers c.loop-worker-test.true)
       c.if-not-live-worker.true last drives);
   fewer = c.loop-worker.invariant.fewer;
@@ -54,7 +55,7 @@ loop-worker-preserved c =
       job = same_since c.args.core.now c.loop-worker.core c.try_turn.new.core same c.in_ok-moved.ensures.job;
       unspent = c.in_ok-moved.ensures.spent;
       drives = λ last drives. c.loop-worker.invariant.drives last
-          (turn_before c.args.core.now c.loop-worker.core c.try_turn.new.core live same (sym c.is_over.ensures ∙ c.if-is_over.false) c.loop-worker.invariant.unspent c.loop-worker.worker below
+          (turn_before spin_of c.args.core.now c.loop-worker.core c.try_turn.new.core live same (sym c.is_over.ensures ∙ c.if-is_over.false) c.loop-worker.invariant.unspent c.loop-worker.worker below
           c.if-not-live-worker.false c.in_ok-moved.ensures.turn last drives);
       fewer = lowers_after c.args.core.now c.loop-worker.core c.try_turn.new.core live c.loop-worker.worker same fits among c.in_ok-moved.ensures.turn c.in_ok-moved.field-0 c.in_ok-moved.ensures.moved
           c.loop-worker.moved c.loop-worker.invariant.fewer;

@@ -156,11 +156,15 @@ impl<B: WorkBrand> Worker<B> {
 
 /// Takes the turns of one worker, after the start barrier, until the run is over or memory runs out. The lock is held
 /// for one turn at a time.
-pub(crate) fn work<S: LockedRun, R: Wait, G: Pause>(rt: &R, shared: &Shared<B, S, W, G>, hand: Hand)
+pub(crate) fn take_turns<B: WorkBrand, S: LockedRun<B>, W: LeafWork, R: Wait, G: Pause>(
+    rt: &R,
+    shared: &Shared<B, S, W, G>,
+    hand: Hand,
+)
     requires { IsHandOf shared.now.decks hand }
 {
     wait_for_others(&shared.arrived, shared.workers);
-    let mut worker = Worker::new(hand, shared.workers);
+    let mut worker = Worker::<B>::new(hand, shared.workers);
     for _ in rt.forever() {
         let number = worker.hints.hand.worker();
         let spun = worker.spun.take();

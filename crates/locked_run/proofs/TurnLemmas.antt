@@ -1,23 +1,23 @@
 -- A turn that is given the work due, right after the turn that asked for it.
 use Rattle.std.proofs.Common.{ℕ, ◌≡◌, ◌∙◌, ap, subst, sym, Option, None, Some, Result, Ok, Err, IfOk}
 use Rattle.sp_order.specs.Jobs.{JobValue}
-use Rattle.core_model.specs.State.{CoreState, CoreJob, core_job_with}
+use Rattle.core_model.specs.State.{CoreState, CoreJob, core_job}
 use Rattle.core_model.specs.declared.event.Event.{Event}
 use Rattle.batcher_core.specs.declared.turn.Turn.{Turn}
 use Rattle.batcher_core.specs.declared.turn.Turn.TheVariants.{Spin}
-use Rattle.batcher_core.specs.Cores.{CoreView, job_in_with, state_in, turn_answer, IsTurnResult}
+use Rattle.batcher_core.specs.Cores.{CoreView, job_in, state_in, turn_answer, IsTurnResult}
 
-job_same : (work : ℕ → ℕ) (old new : CoreView) → (new.job ≡ old.job) × (new.workers ≡ old.workers) → job_in_with work new ≡ job_in_with work old
-job_same work old new same =
-    ap (λ (job : JobValue). core_job_with work job new.workers) same.0 ∙ ap (core_job_with work old.job) same.1
+job_same : (old new : CoreView) → (new.job ≡ old.job) × (new.workers ≡ old.workers) → job_in new ≡ job_in old
+job_same old new same =
+    ap (λ (job : JobValue). core_job job new.workers) same.0 ∙ ap (core_job old.job) same.1
 
 -- the asking turn changed nothing, so the second one started from the state before both
-pub given_turn : {E : Type 0} {work : ℕ → ℕ} (old mid : CoreView) (w : ℕ) (new : CoreState) (result : Result Turn E)
+pub given_turn : {E : Type 0} (old mid : CoreView) (w : ℕ) (new : CoreState) (result : Result Turn E)
     → (mid.job ≡ old.job) × (mid.workers ≡ old.workers) → state_in mid ≡ state_in old
-    → IfOk result (λ t. IsTurnResult t (job_in_with work mid) (state_in mid) w new) → IfOk result (λ t. IsTurnResult t (job_in_with work old) (state_in old) w new)
-given_turn {work = work} old mid w new result same still made =
-    subst (λ (s : CoreState). IfOk result (λ t. IsTurnResult t (job_in_with work old) s w new)) still
-    (subst (λ (job : CoreJob). IfOk result (λ t. IsTurnResult t job (state_in mid) w new)) (job_same work old mid same) made)
+    → IfOk result (λ t. IsTurnResult t (job_in mid) (state_in mid) w new) → IfOk result (λ t. IsTurnResult t (job_in old) (state_in old) w new)
+given_turn old mid w new result same still made =
+    subst (λ (s : CoreState). IfOk result (λ t. IsTurnResult t (job_in old) s w new)) still
+    (subst (λ (job : CoreJob). IfOk result (λ t. IsTurnResult t job (state_in mid) w new)) (job_same old mid same) made)
 
 no_spin : (due : Option ℕ) (done : ℕ) (chosen : Option Event) (steps : ℕ) → turn_answer due (Some done) chosen ≡ Spin steps → ⊥
 no_spin None done None steps is = absurd cc

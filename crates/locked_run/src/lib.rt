@@ -15,4 +15,4 @@ mod sending;
 pub mod turn;
 mod worker;
 
-pub use locked::{run_locked, run_locked_with};
+pub use locked::run_locked;

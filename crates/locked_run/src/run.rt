@@ -1,20 +1,19 @@
 //! The state behind the lock: the core of the job that is run.
 ghost use Rattle.std.specs.Prelude.{◌≡◌, ◌<◌, IfOk, None, true, false, ℕ, []};
 ghost use Rattle.sp_order.specs.Jobs.{JobValue};
-ghost use Rattle.batch_history.specs.Lawful.{LawfulWith};
+ghost use Rattle.batch_history.specs.Lawful.{Lawful};
 ghost use Rattle.batcher_core.specs.Cores.{state_in};
 ghost use Rattle.core_model.specs.Invariant.{Invariant};
-ghost use Rattle.core_model.specs.State.{core_job_with, opening_core};
-ghost use Rattle.core_model.specs.Reports.{IsRunReportWith};
+ghost use Rattle.core_model.specs.State.{core_job, opening_core};
+ghost use Rattle.core_model.specs.Reports.{IsRunReport};
 ghost use Rattle.locked_run.specs.Runs.{RunView, IsCoreOf};
 ghost use Rattle.locked_run.specs.Looks.{HasLooked};
 
 use crate::turn::{Look, newest_if_longer, turn_with};
 use batch_history::Report;
-use batcher_core::{CoreWith, SpunWith, Turn, drive_with};
+use batcher_core::{Core, Spun, Turn, drive};
 use core_model::laws::report::run_goes_on_from_reached;
 use core_model::laws::run::step_leads_to_reached;
-use leaf_work::{LeafWork, WorkBrand};
 use std::alloc::{AllocError, Global};
 use std::marker::{Brand, Model, PhantomData};
 
@@ -32,8 +31,8 @@ impl JobBrand for Brand {
     ghost workers = { 1 };
 }
 
-/// The operations on the state behind the lock. `B` says what the leaves of work compute.
-pub trait LockedRun<B: WorkBrand>: Drop {
+/// The operations on the state behind the lock.
+pub trait LockedRun: Drop {
     ghost job: { JobValue };
 
     ghost workers: { ℕ };
@@ -42,32 +41,31 @@ pub trait LockedRun<B: WorkBrand>: Drop {
     ghost seen: { Self → RunView };
 
     /// A look by the worker, with the work that it has done outside the lock, if any.
-    fn look(&mut self, worker: u32, spun: Option<SpunWith<B>>) -> Look
+    fn look(&mut self, worker: u32, spun: Option<Spun>) -> Look
         requires { worker < workers }
-        ensures { HasLooked B.work worker (seen self.old) (seen self.new) result };
+        ensures { HasLooked worker (seen self.old) (seen self.new) result };
 
     /// Records that memory ran out in a worker, outside the lock.
     fn fail(&mut self)
         ensures { seen self.new ≡ record (seen self.old) { failed = true } };
 
     /// The report of the run, or an error where memory ran out.
-    fn report<W: LeafWork>(self, alloc: Global, work: &W) -> Result<Report, AllocError>
-        requires meaning { W.meaning work.now ≡ B.work }
+    fn report(self, alloc: Global) -> Result<Report, AllocError>
         ensures whole { IfOk result (λ _. (seen self).failed ≡ false) }
-        ensures lawful { IfOk result (λ report. LawfulWith B.work job workers report) }
-        ensures run { IfOk result (IsRunReportWith B.work job workers) };
+        ensures lawful { IfOk result (λ report. Lawful job workers report) }
+        ensures run { IfOk result (IsRunReport job workers) };
 }
 
 /// The core of the given job, and whether memory ran out in some worker. Each taker of the lock finds a core of this
 /// job, whatever the other workers did. Unless memory ran out, the core is not spent and so has the core's invariant.
 #[derive(Drop)]
-pub struct Run<J: JobBrand, B: WorkBrand> {
-    core: CoreWith<B>,
+pub struct Run<J: JobBrand> {
+    core: Core,
     failed: bool,
     of: PhantomData<J>,
 }
 
-impl<J: JobBrand, B: WorkBrand> Model for Run<J, B> {
+impl<J: JobBrand> Model for Run<J> {
     ghost use Rattle.std.specs.Coded.{codes};
     ghost use Rattle.sp_order.specs.Jobs.{coded_job};
     ghost use Rattle.locked_run.specs.Runs.{RunView, IsRunOf};
@@ -78,13 +76,13 @@ impl<J: JobBrand, B: WorkBrand> Model for Run<J, B> {
 
     ghost view = { λ r. record { core = r.core; failed = r.failed } };
 
-    ghost invariant = { λ r. IsRunOf B.work J.job J.workers
+    ghost invariant = { λ r. IsRunOf J.job J.workers
         (record { core = r.core; failed = r.failed }) };
 }
 
-impl<J: JobBrand, B: WorkBrand> Run<J, B> {
+impl<J: JobBrand> Run<J> {
     /// The run of a core that is at its opening state.
-    pub fn new(core: CoreWith<B>) -> Run<J, B>
+    pub fn new(core: Core) -> Run<J>
         requires job { IsCoreOf J.job J.workers core }
         requires unspent { core.spent ≡ false }
         requires opening { state_in core ≡ opening_core }
@@ -102,14 +100,14 @@ impl<J: JobBrand, B: WorkBrand> Run<J, B> {
     /// nothing.
     pub fn stands(&self)
         ensures invariant { self.now.core.spent ≡ false
-            → Invariant (core_job_with B.work J.job J.workers) (state_in self.now.core) }
+            → Invariant (core_job J.job J.workers) (state_in self.now.core) }
         ensures whole { self.now.failed ≡ false → self.now.core.spent ≡ false }
     {
         self.core.stands();
     }
 }
 
-impl<J: JobBrand, B: WorkBrand> LockedRun<B> for Run<J, B> {
+impl<J: JobBrand> LockedRun for Run<J> {
     ghost job = { J.job };
 
     ghost workers = { J.workers };
@@ -118,9 +116,9 @@ impl<J: JobBrand, B: WorkBrand> LockedRun<B> for Run<J, B> {
 
     /// One turn of the worker, with the work that it has done outside the lock, if any. Where memory runs out in the
     /// turn, the run has failed, and each later look answers `Ended`.
-    fn look(&mut self, worker: u32, spun: Option<SpunWith<B>>) -> Look
+    fn look(&mut self, worker: u32, spun: Option<Spun>) -> Look
         requires { worker < J.workers }
-        ensures { HasLooked B.work worker self.old self.new result }
+        ensures { HasLooked worker self.old self.new result }
     {
         step_leads_to_reached();
         if self.failed || self.core.is_over() {
@@ -148,12 +146,11 @@ impl<J: JobBrand, B: WorkBrand> LockedRun<B> for Run<J, B> {
         self.failed = true;
     }
 
-    /// The report of the run, or an error where memory ran out. What the workers left undone is finished here, by `work`.
-    fn report<W: LeafWork>(self, alloc: Global, work: &W) -> Result<Report, AllocError>
-        requires meaning { W.meaning work.now ≡ B.work }
+    /// The report of the run, or an error where memory ran out. What the workers left undone is finished here.
+    fn report(self, alloc: Global) -> Result<Report, AllocError>
         ensures whole { IfOk result (λ _. self.failed ≡ false) }
-        ensures lawful { IfOk result (λ report. LawfulWith B.work J.job J.workers report) }
-        ensures run { IfOk result (IsRunReportWith B.work J.job J.workers) }
+        ensures lawful { IfOk result (λ report. Lawful J.job J.workers report) }
+        ensures run { IfOk result (IsRunReport J.job J.workers) }
     {
         run_goes_on_from_reached();
         let Run {
@@ -164,6 +161,6 @@ impl<J: JobBrand, B: WorkBrand> LockedRun<B> for Run<J, B> {
         if failed {
             return Err(AllocError);
         }
-        drive_with(alloc, core, work, &[])
+        drive(alloc, core, &[])
     }
 }

@@ -8,11 +8,8 @@ ghost use Rattle.locked_run.specs.Points.{point_by};
 use crate::hints::WorkHints;
 use crate::run::LockedRun;
 use crate::turn::Look;
-use batcher_core::{Doing, SpunWith};
-use leaf_work::{LeafWork, WorkBrand};
+use batcher_core::{Doing, Spun};
 use run_points::{Pause, Point, wait_for_others};
-use std::alloc::Global;
-use std::marker::PhantomData;
 use std::sync::atomic::AtomicU64;
 use std::sync::{Mutex, Wait};
 use std::thread;
@@ -20,26 +17,22 @@ use two_deques::{Decks, Hand};
 
 /// What the workers of a run share.
 #[derive(Drop)]
-pub(crate) struct Shared<'a, B: WorkBrand, S: LockedRun<B>, W: LeafWork, G> {
-    pub(crate) alloc: Global,
+pub(crate) struct Shared<'a, S: LockedRun, G> {
     pub(crate) run: Mutex<S>,
     pub(crate) decks: Decks,
     /// How many workers have arrived at the start barrier.
     pub(crate) arrived: AtomicU64,
     pub(crate) workers: u32,
-    pub(crate) work: &'a W,
     pub(crate) pause: &'a G,
-    pub(crate) of: PhantomData<B>,
-    ghost meaning: { W.meaning work ≡ B.work },
     ghost sizes: { (workers ≡ S.workers) × (workers ≡ workers_of decks) × (workers ≤ MOST_WORKERS) },
 }
 
 /// What a worker carries from turn to turn: how it looks for work, the work that it did and has not handed in, and what
 /// its last event left it doing.
 #[derive(Drop)]
-struct Worker<B: WorkBrand> {
+struct Worker {
     hints: WorkHints,
-    spun: Option<SpunWith<B>>,
+    spun: Option<Spun>,
     doing: Doing,
 }
 
@@ -58,9 +51,9 @@ fn point_reached(was: Doing, doing: Doing) -> Option<Point>
     }
 }
 
-impl<B: WorkBrand> Worker<B> {
+impl Worker {
     /// A worker at the start.
-    fn new(hand: Hand, workers: u32) -> Worker<B>
+    fn new(hand: Hand, workers: u32) -> Worker
         ensures { (result.hints.hand ≡ hand) × (result.hints.victim ≡ (held hand).worker)
             × (result.hints.workers ≡ workers) }
     {
@@ -84,10 +77,10 @@ impl<B: WorkBrand> Worker<B> {
 
     /// Pushes a node that became ready, as a sign to the other workers, and yields the thread to them. A refused push
     /// fails the run. The answer is whether the worker goes on.
-    fn announce<S: LockedRun<B>, W: LeafWork, R: Wait, G>(
+    fn announce<S: LockedRun, R: Wait, G>(
         &mut self,
         rt: &R,
-        shared: &Shared<B, S, W, G>,
+        shared: &Shared<S, G>,
         node: u32,
     ) -> bool
         requires hints { AreHintsOf shared.now.decks self.old.hints }
@@ -101,29 +94,11 @@ impl<B: WorkBrand> Worker<B> {
         false
     }
 
-    /// Does the work of the leaf with this number. Want of memory fails the run. The answer is whether the worker goes
-    /// on.
-    fn do_work<S: LockedRun<B>, W: LeafWork, R: Wait, G>(
-        &mut self,
-        rt: &R,
-        shared: &Shared<B, S, W, G>,
-        number: u32,
-    ) -> bool
-        ensures { self.new.hints ≡ self.old.hints }
-    {
-        if let Ok(spun) = SpunWith::by(shared.alloc, shared.work, number) {
-            self.spun = Some(spun);
-            return true;
-        }
-        shared.run.lock(rt).fail();
-        false
-    }
-
     /// What the worker does outside the lock after a look at the core. The answer is whether the worker goes on.
-    fn act_on<S: LockedRun<B>, W: LeafWork, R: Wait, G: Pause>(
+    fn act_on<S: LockedRun, R: Wait, G: Pause>(
         &mut self,
         rt: &R,
-        shared: &Shared<B, S, W, G>,
+        shared: &Shared<S, G>,
         look: Look,
     ) -> bool
         requires hints { AreHintsOf shared.now.decks self.old.hints }
@@ -131,7 +106,10 @@ impl<B: WorkBrand> Worker<B> {
     {
         match look {
             Look::Ended => false,
-            Look::Due(number) => self.do_work(rt, shared, number),
+            Look::Due(steps) => {
+                self.spun = Some(Spun::of(steps));
+                true
+            }
             Look::Idle => {
                 self.hints.find(rt, &shared.decks);
                 true
@@ -156,15 +134,11 @@ impl<B: WorkBrand> Worker<B> {
 
 /// Takes the turns of one worker, after the start barrier, until the run is over or memory runs out. The lock is held
 /// for one turn at a time.
-pub(crate) fn take_turns<B: WorkBrand, S: LockedRun<B>, W: LeafWork, R: Wait, G: Pause>(
-    rt: &R,
-    shared: &Shared<B, S, W, G>,
-    hand: Hand,
-)
+pub(crate) fn work<S: LockedRun, R: Wait, G: Pause>(rt: &R, shared: &Shared<S, G>, hand: Hand)
     requires { IsHandOf shared.now.decks hand }
 {
     wait_for_others(&shared.arrived, shared.workers);
-    let mut worker = Worker::<B>::new(hand, shared.workers);
+    let mut worker = Worker::new(hand, shared.workers);
     for _ in rt.forever() {
         let number = worker.hints.hand.worker();
         let spun = worker.spun.take();

@@ -20,22 +20,22 @@ pub returns-clause-fit : goal.returns-clause-fit
 returns-clause-fit c =
     let table = c.args.table.now in
     let hold = (pass_view c.args.pass.now).hold in
-    let t = c.in_some-call.ensures.took in
-    let take = after_take (call_by c.args.u c.in_some-call.call) in
+    let t = c.in_ok-call.ensures.took in
+    let take = after_take (call_by c.args.u c.in_ok-call.call) in
     let next = c.requires.next in
     let is : c.args.u ≡ t.0.looks = next.2 ∙ ap (λ (h : HoldView). h.looks) (same_Some next.0 t.0 (sym next.1 ∙ t.1)) in
     let few = calls_few (job_in table) (job_tree (planned_in table)) (c.plan_stands_for_tree.ensures (job_tree (planned_in table))) in
     let acts = table.acts in
     let workers = table.few in
-    let fit = fit_taken t.0 c.args.u (call_count (job_in table)) c.in_some-call.call t.2 (omega (arith, few, acts.0, acts.1)) is (omega (arith, c.requires.below, workers.1))
+    let fit = fit_taken t.0 c.args.u (call_count (job_in table)) c.in_ok-call.call t.2 (omega (arith, few, acts.0, acts.1)) is (omega (arith, c.requires.below, workers.1))
     (held_at AreFit hold t.0 c.requires.fit t.1) in
     subst (Holds AreFit) (sym (ap (λ (p : PassView). p.hold) (own_of _ _ t.4) ∙ ap (in_hold take) t.1)) fit
 
-pub returns-in_none-clause-fit : goal.returns-in_none-clause-fit
-returns-in_none-clause-fit c =
+pub returns-in_err-call-clause-fit : goal.returns-in_err-call-clause-fit
+returns-in_err-call-clause-fit c =
     let hold = (pass_view c.args.pass.now).hold in
     let next = c.requires.next in
-    let (miss, _, now) = c.in_none.ensures.passed in
+    let (miss, _, now) = c.in_err-call.ensures.passed in
     let pass = after_pass miss.found in
     subst (Holds AreFit) (sym (ap (λ (p : PassView). p.hold) (own_of _ _ now) ∙ ap (in_hold pass) next.1))
     (fit_passed next.0 miss.found (held_at AreFit hold next.0 c.requires.fit next.1))

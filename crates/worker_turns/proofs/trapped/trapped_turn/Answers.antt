@@ -60,16 +60,16 @@ returns-in-Ran-other g c =
       stopped = search rules;
     }
 
-pub returns-in-Some : goal.returns-in-Some
-returns-in-Some g c =
+pub returns-in-Some-win : goal.returns-in-Some-win
+returns-in-Some-win g c =
     let workers = (job_in c.args.crew.now.table).workers in
     let old = me_seen c.args.me.now in
     let tried = me_seen c.pop_own_piece.new.me in
     let new = me_seen c.launch.new.me in
     let own = subst (λ (p : PassView). IsOwnPiece c.in_ok-own.own (record old { pass = p }) tried) (own_of _ _ (c.stopped.ensures.unset c.if-stopped.false).2) c.in_ok-own.ensures.path in
-    let shop = c.in-Some.shop in
+    let shop = c.in-Some-win.shop in
     let stay : pass_view c.leave.new.pass ≡ refusing_leave tried.pass = search rules in
-    let won = c.in-Some.ensures.won in
+    let won = c.in-Some-win.ensures.won in
     let now : pass_view c.win.new.pass ≡ winning shop (refusing_leave tried.pass) = own_of _ _ won.0 ∙ ap (winning shop) stay in
     let launches : Launches workers shop (won_after shop tried) new = subst (λ (p : PassView). Launches workers shop (record tried { pass = p }) new) now c.in_ok-launch.ensures.launched in
     let front : IsPrefix tried.pass.book_seen shop = subst (λ (p : PassView). IsPrefix p.book_seen shop) stay won.1 in

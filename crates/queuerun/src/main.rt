@@ -1,9 +1,9 @@
 //! The program `queuerun`: serves a script of batches of puts and gets of a FIFO queue, and prints each reply.
 //!
 //! `program::queuerun` is the whole program over any shelf and sinks. Its theorem says that a run that is done has
-//! printed what one thread prints that serves the calls one after another, although each batch is served in stripes,
-//! which threads may share. `call` parses the calls, and `server` serves a batch by `batched_queue` and writes its
-//! lines (`line`). `main` only hands in the real words, files and streams.
+//! printed what one thread prints that serves the calls one after another, although each batch is served in stripes.
+//! `call` parses the calls, and `server` serves a batch by `batched_queue` and writes its lines (`line`). `main` only
+//! hands in the real words, files and streams.
 //!
 //! The crate stands on `batch_script`, which reads scripts and carries the causes of each status, and `batched_queue`.
 #![tactic(auto)]

@@ -2,13 +2,15 @@
 //!
 //! `LeafWork` is a function of the caller's, from the number of a leaf of work to its value, with its meaning. `Spin` is
 //! the work of `seq_objects`. `WorkBrand` is a meaning as a type, by which the type of a core says what its leaves
-//! compute.
+//! compute, and `BrandedWork` is borrowed work with such a meaning, for the threads of workers.
 #![tactic(auto)]
 
 mod brand;
+mod branded;
 mod function;
 mod spin;
 
 pub use brand::WorkBrand;
+pub use branded::BrandedWork;
 pub use function::LeafWork;
 pub use spin::Spin;

@@ -19,7 +19,7 @@ use Rattle.core_model.specs.Invariant.{Parts}
 use Rattle.core_model.specs.Waits.{IsTrapped, WaitsSince, task_place}
 use Rattle.core_model.specs.Words.{Entry, IsPlan, IsSide, SeqNode, ParNode, OpenSecond, FinishParent, Arrive, Op}
 use Rattle.table_rule.specs.CoreWords.{Event, Publish, Receipt, Served, Whole}
-use Rattle.core_model.specs.Settings.{job_of}
+use Rattle.core_model.specs.Settings.{job_of, job_with}
 use Rattle.core_model.specs.declared.setting.Setting.{Setting}
 
 -- what every setting of a table has: bounded nodes, one act for each leaf, at most `MOST_LEAVES` of them, sources that
@@ -28,7 +28,7 @@ pub record IsSound (key : Setting) : Type 0 where
   pub few : (job_of key).plan.count < 2 * MOST_LEAVES
   pub leaves : length key.job.acts ≡ leaves (job_tree key.job)
   pub short : length key.job.acts ≤ MOST_LEAVES
-  pub sources : HasSources (job_of key)
+  pub sources : (work : ℕ → ℕ) → HasSources (job_with work key)
   pub workers : key.workers ≤ MOST_WORKERS
 
 -- The laws of the core for one job, a field each. They hold of the job of every sound setting (`laws_hold`).

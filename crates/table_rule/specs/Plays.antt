@@ -22,7 +22,7 @@ use Rattle.table_rule.specs.Batches.{IsPublishDue}
 use Rattle.core_model.specs.Entries.{StandsAt}
 use Rattle.table_rule.specs.Shows.{record_in, entry_of, reserved, IsPrefix}
 use Rattle.table_rule.specs.Moments.{IsMomentOf, IsMissAt}
-use Rattle.table_rule.specs.Tasks.{IsNext, job_seen, most_ticks}
+use Rattle.table_rule.specs.Tasks.{IsNext, job_seen_with, most_ticks}
 use Rattle.table_rule.specs.Passes.{call_by, claiming, refusing, with_task, opening, keeping, telling, finding_stop, finding_none, winning, refusing_win, taking, skipping, publishing, answering, releasing, leaving, refusing_leave}
 use Rattle.table_rule.specs.Views.{with_step, with_miss, with_post, with_since, with_stop, seeing_done, seeing_undone, enrolling}
 
@@ -33,19 +33,20 @@ SeatState = Me Slot View
 abbrev pub Play : Type 1
 Play = Step Slot → SeatState → ℕ → SeatState → Type 0
 
--- the number found is not the one that the step looked for: the view notes the miss, and `f` is done to the pass
-abbrev pub missed : (PassView → PassView) → Play
-missed f st m r n =
-    (miss : Miss) × IsMissAt (job_seen m.0) m.0.room m.0 st.word miss × (miss.found ≡ r) × (n ≡ (with_miss miss f m.0, m.1))
+-- The number found is not the one that the step looked for: the view notes the miss, and `f` is done to the pass. Here
+-- and below, the leaves of work of the job compute `work`.
+abbrev pub missed : (ℕ → ℕ) → (PassView → PassView) → Play
+missed work f st m r n =
+    (miss : Miss) × IsMissAt (job_seen_with work m.0) m.0.room m.0 st.word miss × (miss.found ≡ r) × (n ≡ (with_miss miss f m.0, m.1))
 
 -- the claim succeeds exactly if the node's word was that of a ready node
-abbrev pub claimed : Play
-claimed st m r n =
-    (node : ℕ) × (st.word ≡ node_at m.0.workers node) × (r ≡ READY → n ≡ (with_step (claiming node) m.0, m.1)) × (r ≢ READY → missed (refusing node) st m r n)
+abbrev pub claimed : (ℕ → ℕ) → Play
+claimed work st m r n =
+    (node : ℕ) × (st.word ≡ node_at m.0.workers node) × (r ≡ READY → n ≡ (with_step (claiming node) m.0, m.1)) × (r ≢ READY → missed work (refusing node) st m r n)
 
 -- a claim past the last node is refused; the step's first operand is 4 more than the number claimed
-abbrev pub strayed : Play
-strayed st m r n = (node : ℕ) × (st.first ≡ 4 + node) × missed (refusing node) st m r n × (m.0.nodes ≤ node)
+abbrev pub strayed : (ℕ → ℕ) → Play
+strayed work st m r n = (node : ℕ) × (st.first ≡ 4 + node) × missed work (refusing node) st m r n × (m.0.nodes ≤ node)
 
 -- the number found is the tick drawn, which starts or ends the task's leaf, whichever is its next act
 abbrev pub drawn : Play
@@ -77,10 +78,10 @@ arrived st m r n =
     × (r ≢ 0 → n ≡ (with_step (with_task (ArriveSecond node left right side) (Handed node)) m.0, m.1))
 
 -- the root is seen done exactly if its word has the code of a done node
-abbrev pub looked_at_root : Play
-looked_at_root st m r n =
+abbrev pub looked_at_root : (ℕ → ℕ) → Play
+looked_at_root work st m r n =
     (r % CODES ≡ DONE → n ≡ (seeing_done m.0, m.1))
-    × (r % CODES ≢ DONE → (miss : Miss) × IsMissAt (job_seen m.0) m.0.room m.0 st.word miss × (miss.found ≡ r) × (n ≡ (seeing_undone miss m.0, m.1)))
+    × (r % CODES ≢ DONE → (miss : Miss) × IsMissAt (job_seen_with work m.0) m.0.room m.0 st.word miss × (miss.found ≡ r) × (n ≡ (seeing_undone miss m.0, m.1)))
     × (st.word ≡ node_at m.0.workers 0)
 
 -- the number of published batches is told
@@ -88,15 +89,15 @@ abbrev pub heard : Play
 heard st m r n = (n ≡ (with_since r m.0, m.1)) × (st.word ≡ count_at m.0.workers)
 
 -- the stop word is set to 1, at a moment that the view notes
-abbrev pub stopped_all : Play
-stopped_all st m r n =
-    ((moment : ℕ) × IsMomentOf (job_seen m.0) m.0.room m.0 moment × (n ≡ (with_stop moment m.0, m.1)))
+abbrev pub stopped_all : (ℕ → ℕ) → Play
+stopped_all work st m r n =
+    ((moment : ℕ) × IsMomentOf (job_seen_with work m.0) m.0.room m.0 moment × (n ≡ (with_stop moment m.0, m.1)))
     × (st.word ≡ stop_at m.0.workers) × (st.first ≡ 1)
 
 -- the stop word is found set exactly if it was 1, and else it was 0
-abbrev pub looked_at_stop : Play
-looked_at_stop st m r n =
-    (r ≡ 1 → n ≡ (with_step finding_stop m.0, m.1)) × (r ≢ 1 → (r ≡ 0) × missed finding_none st m r n) × (st.word ≡ stop_at m.0.workers)
+abbrev pub looked_at_stop : (ℕ → ℕ) → Play
+looked_at_stop work st m r n =
+    (r ≡ 1 → n ≡ (with_step finding_stop m.0, m.1)) × (r ≢ 1 → (r ≡ 0) × missed work finding_none st m r n) × (st.word ≡ stop_at m.0.workers)
 
 -- the word is that of a node's value, and the number found is told to the pass
 abbrev pub looked_at_value : Play
@@ -115,12 +116,12 @@ posted st m r n =
 
 -- The flag is won exactly if it was 0. The winner gets the shop and the book. Both have the same batches, and what the
 -- pass has seen is a prefix of them.
-abbrev pub won : Play
-won st m r n =
+abbrev pub won : (ℕ → ℕ) → Play
+won work st m r n =
     (r ≡ 0 → (m.0.own.hold ≡ None) × (book : List (List Entry))
     × (n ≡ (with_step (winning book) m.0, (shop_at m.0.workers, Slots.Shop book) ∷ (book_at m.0.workers, Slots.Book (reserved book m.0.room)) ∷ m.1))
     × IsPrefix m.0.own.book_seen book)
-    × (r ≢ 0 → missed refusing_win st m r n) × (st.word ≡ flag_at m.0.workers)
+    × (r ≢ 0 → missed work refusing_win st m r n) × (st.word ≡ flag_at m.0.workers)
 
 -- The call's leaf is neither in the book nor that of a call taken before. The book's entries, the calls taken before
 -- and this one are together at most `room`.
@@ -131,12 +132,12 @@ pub record IsNewCall (room : ℕ) (h : HoldView) (call : OpRecord) : Type 0 wher
 
 -- A look at the next worker takes its call exactly if that is pending. A call that is taken has the
 -- operation of its leaf under the hold's book.
-abbrev pub took : Play
-took st m r n =
+abbrev pub took : (ℕ → ℕ) → Play
+took work st m r n =
     (h : HoldView) × (m.0.own.hold ≡ Some h) × (h.published ≡ false)
-    × (r ≡ PENDING → (call : OpRecord) × IsNewCall m.0.room h call × (op_of (job_seen m.0) h.book call.leaf ≡ Some call.op)
+    × (r ≡ PENDING → (call : OpRecord) × IsNewCall m.0.room h call × (op_of (job_seen_with work m.0) h.book call.leaf ≡ Some call.op)
     × (n ≡ (with_step (taking (call_by st.word call)) m.0, (st.word, Slots.Record call) ∷ m.1)))
-    × (r ≢ PENDING → missed (skipping st.word r) st m r n)
+    × (r ≢ PENDING → missed work (skipping st.word r) st m r n)
     × (st.word ≡ h.looks)
 
 -- the view stays; the book has room for any batch that is due, and stays a history with it
@@ -170,11 +171,11 @@ released_both st m r n = n ≡ (with_step releasing m.0, rest (rest m.1))
 -- The pass leaves exactly if its call is served, with the receipt of the call that it posted last. The number of
 -- the receipt's batch is at least `before`, and at most one more than `after`, if that is told. The book has the call's
 -- entry there, whose operation is that of the call's leaf under the book.
-abbrev pub left : Play
-left st m r n =
+abbrev pub left : (ℕ → ℕ) → Play
+left work st m r n =
     (r ≡ SERVED → (call : OpRecord) × (receipt : Receipt) × (m.0.own.posted ≡ Some call) × (m.0.own.before ≤ receipt.batch)
     × ((since : ℕ) → m.0.own.after ≡ Some since → receipt.batch ≤ since + 1)
-    × ((book : List (List Entry)) × IsPrefix m.0.own.book_seen book × (op_of (job_seen m.0) book call.leaf ≡ Some call.op)
+    × ((book : List (List Entry)) × IsPrefix m.0.own.book_seen book × (op_of (job_seen_with work m.0) book call.leaf ≡ Some call.op)
     × StandsAt book receipt.batch receipt.place (entry_of m.0.own.worker (record { call = call; receipt = receipt }))
     × (n ≡ (with_step (leaving call receipt book) m.0, (st.word, Slots.Receipt receipt) ∷ m.1))))
-    × (r ≢ SERVED → missed refusing_leave st m r n) × (st.word ≡ m.0.own.worker)
+    × (r ≢ SERVED → missed work refusing_leave st m r n) × (st.word ≡ m.0.own.worker)

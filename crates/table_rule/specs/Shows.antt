@@ -5,11 +5,12 @@ use lib.ListN.{get_elem?}
 use Rattle.std.specs.List.{AllByRecursion}
 use Rattle.atomic_table.specs.Table.{State as AtomicState}
 use Rattle.seq_objects.specs.Objects.{value_of}
+use Rattle.seq_objects.specs.Spin.{spin_of}
 use Rattle.seq_objects.specs.Pairs.{AreDistinct}
 use Rattle.batch_history.specs.Book.{flat}
 use Rattle.batch_history.specs.Reserved.{ReservedView}
 use Rattle.core_model.specs.Runs.{Step, Reaches}
-use Rattle.core_model.specs.Settings.{job_of}
+use Rattle.core_model.specs.Settings.{job_of, job_with}
 use Rattle.core_model.specs.Words.{Entry, LeafNode}
 use Rattle.table_rule.specs.CoreWords.{Event, Task, Idle, Started, Status, Free, Pending, Executing, Served, CallState, NotCalled, Out, Got}
 use Rattle.core_model.specs.State.{CoreJob, CoreState, Hold, State}
@@ -262,6 +263,10 @@ pub record Shows (job : CoreJob) (room : ℕ) (t : TableState) : Type 0 where
   pub misses : MissesAgree job t.views trace
   pub stop : StopShows (stop_at job.workers) (slice_index t.words (stop_at job.workers)) t.views
 
--- the rule of the table: `atomic_table` keeps it between any two steps
+-- The rule of the table, where the leaves of work compute `work`: `atomic_table` keeps it between any two steps.
+abbrev pub ShownWith : (ℕ → ℕ) → Setting → TableState → Type 0
+ShownWith work key = Shows (job_with work key) (room_of key)
+
+-- the same where they spin
 abbrev pub Shown : Setting → TableState → Type 0
-Shown key = Shows (job_of key) (room_of key)
+Shown = ShownWith spin_of

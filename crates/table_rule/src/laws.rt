@@ -1,4 +1,5 @@
-//! The rule's laws: those of the core that the rule rests on, and what holds of every table that meets the rule.
+//! The rule's laws: those of the core that the rule rests on, and what holds of every table that meets the rule, whatever
+//! the leaves of work compute.
 ghost use Rattle.std.specs.Prelude.{◌≡◌, ◌<◌, ◌≤◌, ◌*◌, ℕ, List, [], Some, length, slice_index};
 ghost use Rattle.std.specs.List.{AllByRecursion};
 ghost use mathlib.Core.Option.{some};
@@ -10,10 +11,11 @@ ghost use Rattle.sp_order.specs.Precedence.{leaves};
 ghost use Rattle.core_model.specs.declared.setting.Setting.{Setting};
 ghost use Rattle.table_rule.specs.declared.view.View.{View};
 ghost use Rattle.table_rule.specs.Laws.{IsSound, Laws};
-ghost use Rattle.table_rule.specs.Shows.{TableState, Shown, job_of, IsPrefix, AreInOrder, IsTrueIn, IsBeforeSet};
+ghost use Rattle.table_rule.specs.Shows.{TableState, ShownWith, job_of, IsPrefix, AreInOrder, IsTrueIn, IsBeforeSet};
 ghost use Rattle.table_rule.specs.OneState.{AreOne};
 ghost use Rattle.table_rule.specs.Words.{stop_at};
 ghost use Rattle.core_model.specs.Entries.{StandsAt};
+ghost use Rattle.core_model.specs.Settings.{job_with};
 ghost use Rattle.core_model.specs.LeafSources.{HasSources};
 ghost use Rattle.core_model.specs.State.{opening_state};
 ghost use Rattle.core_model.specs.Words.{Entry, LeafNode};
@@ -33,11 +35,11 @@ use sp_order::laws::{plan_has_root, plan_has_sides, plan_stands_for_tree};
 
 /// The core's laws, instantiated for a table's job.
 pub fn laws_hold()
-    ensures { (key : Setting) → (job_of key).plan.count < 2 * MOST_LEAVES
+    ensures { (work : ℕ → ℕ) (key : Setting) → (job_of key).plan.count < 2 * MOST_LEAVES
         → length key.job.acts ≡ leaves (job_tree key.job)
         → length key.job.acts ≤ MOST_LEAVES
-        → HasSources (job_of key)
-        → Laws (job_of key) }
+        → HasSources (job_with work key)
+        → Laws (job_with work key) }
 {
     event_keeps_parts();
     calls_have_room();
@@ -60,9 +62,9 @@ pub fn laws_hold()
 
 /// A table shows at most one state: any two states that it shows agree on everything that `AreOne` lists.
 pub fn at_most_one_state_is_shown()
-    ensures { (key : Setting) → IsSound key
-        → (t : TableState) (one two : Shown key t)
-        → AreOne (job_of key) one.state two.state }
+    ensures { (work : ℕ → ℕ) (key : Setting) → IsSound key
+        → (t : TableState) (one two : ShownWith work key t)
+        → AreOne (job_with work key) one.state two.state }
 {
     laws_hold();
 }
@@ -79,14 +81,14 @@ pub fn entries_stay_where_they_stand()
 /// A number that `source_value` told a pass is the value of its source: the pass has started a leaf that has a source,
 /// an entry of the source stands in the book, and the number is the value of that entry's reply.
 pub fn told_values_are_those_of_sources()
-    ensures { (key : Setting) (t : TableState) (shown : Shown key t) (id : ℕ) (v : View) (value : ℕ)
+    ensures { (work : ℕ → ℕ) (key : Setting) (t : TableState) (shown : ShownWith work key t) (id : ℕ) (v : View) (value : ℕ)
         → get_elem? t.views id ≡ some v
         → v.own.worker < v.to
         → v.own.told ≡ Some value
         → (node : ℕ) × (start : ℕ) × (leaf : ℕ) × (source : ℕ)
         × (v.own.task ≡ Started node start)
-        × ((job_of key).plan.kind node ≡ Some (LeafNode leaf))
-        × ((job_of key).source leaf ≡ Some source)
+        × ((job_with work key).plan.kind node ≡ Some (LeafNode leaf))
+        × ((job_with work key).source leaf ≡ Some source)
         × (batch : ℕ) × (place : ℕ) × (entry : Entry)
         × StandsAt shown.state.book batch place entry
         × (entry.leaf ≡ source)
@@ -98,7 +100,7 @@ pub fn told_values_are_those_of_sources()
 /// A table on which every worker's seat has no events shows the opening state. So a new table does: no leaf has run
 /// on it.
 pub fn tables_without_events_show_the_opening_state()
-    ensures { (key : Setting) (t : TableState) (shown : Shown key t)
+    ensures { (work : ℕ → ℕ) (key : Setting) (t : TableState) (shown : ShownWith work key t)
         → ((w : ℕ) → w < key.workers → (id : ℕ) × (v : View) × (get_elem? t.views id ≡ some v)
         × (v.own.worker ≤ w) × (w < v.to) × (v.own.events ≡ []))
         → shown.state ≡ opening_state }
@@ -108,28 +110,28 @@ pub fn tables_without_events_show_the_opening_state()
 /// many events of the pass as it says, reaches a state in which the word has the number found. The moments of a pass do
 /// not fall.
 pub fn misses_are_true_at_their_moments()
-    ensures { (key : Setting) (t : TableState) (shown : Shown key t) (id : ℕ) (v : View)
+    ensures { (work : ℕ → ℕ) (key : Setting) (t : TableState) (shown : ShownWith work key t) (id : ℕ) (v : View)
         → get_elem? t.views id ≡ some v
         → v.own.worker < v.to
-        → AllByRecursion (IsTrueIn (job_of key) v.own.worker shown.trace) v.misses × AreInOrder v.misses }
+        → AllByRecursion (IsTrueIn (job_with work key) v.own.worker shown.trace) v.misses × AreInOrder v.misses }
 {}
 
 /// The stop word is 0 until a pass sets it, and 1 from then on. A look finds it set only if some pass has set it, and
 /// not set only if it found 0, not after the first set by any pass.
 pub fn the_stop_word_is_set_by_a_pass()
-    ensures found { (key : Setting) (t : TableState) (shown : Shown key t) (id : ℕ) (v : View)
+    ensures found { (work : ℕ → ℕ) (key : Setting) (t : TableState) (shown : ShownWith work key t) (id : ℕ) (v : View)
         → get_elem? t.views id ≡ some v
         → 0 < v.own.stops_found
         → (by : ℕ) × (u : View) × (get_elem? t.views by ≡ some u) × (0 < u.own.stops) }
-    ensures stays { (key : Setting) (t : TableState) (shown : Shown key t) (id : ℕ) (v : View)
+    ensures stays { (work : ℕ → ℕ) (key : Setting) (t : TableState) (shown : ShownWith work key t) (id : ℕ) (v : View)
         → get_elem? t.views id ≡ some v
         → 0 < v.own.stops
         → slice_index t.words (stop_at key.workers) ≡ 1 }
-    ensures unset { (key : Setting) (t : TableState) (shown : Shown key t)
+    ensures unset { (work : ℕ → ℕ) (key : Setting) (t : TableState) (shown : ShownWith work key t)
         → ((w : ℕ) → w < key.workers → (id : ℕ) × (v : View) × (get_elem? t.views id ≡ some v)
         × (v.own.worker ≤ w) × (w < v.to) × (v.own.stops ≡ 0))
         → slice_index t.words (stop_at key.workers) ≡ 0 }
-    ensures before { (key : Setting) (t : TableState) (shown : Shown key t) (id by : ℕ) (v u : View)
+    ensures before { (work : ℕ → ℕ) (key : Setting) (t : TableState) (shown : ShownWith work key t) (id by : ℕ) (v u : View)
         → get_elem? t.views id ≡ some v
         → v.own.worker < v.to
         → get_elem? t.views by ≡ some u

@@ -1,6 +1,7 @@
 //! The rule that a running table keeps, and its kinds of step. Each kind has a play, which relates the seat before a
-//! step to the seat after it: what the step tells its pass, and which slots it moves (`specs/Plays.antt`).
-ghost use Rattle.table_rule.specs.Shows.{Shown};
+//! step to the seat after it: what the step tells its pass, and which slots it moves (`specs/Plays.antt`). Where a play
+//! speaks of the job, its type names what the leaves of work compute.
+ghost use Rattle.table_rule.specs.Shows.{ShownWith};
 ghost use Rattle.table_rule.specs.Views.{first_view, pass_of, rest_of};
 ghost use Rattle.table_rule.specs.Plays.{claimed, strayed, drawn, opened, kept, finished, arrived, looked_at_root, heard, enrolled, posted, won, took, admitted, published, answered, released_shop, released_both, left, stopped_all, looked_at_stop, looked_at_value};
 
@@ -8,29 +9,39 @@ use crate::slot::Slot;
 use crate::view::View;
 use atomic_table::{Play, Split, TableRule};
 use core_model::Setting;
+use leaf_work::WorkBrand;
+use std::marker::PhantomData;
 
 /// The rule of the running table: its words, slots and views show a state of the scheduler's core (`Shown`).
 /// A step is made only with a proof that it keeps this rule.
-pub struct SchedulerRule;
+///
+/// `B` says what the leaves of work compute.
+pub struct SchedulerRule<B: WorkBrand> {
+    of: PhantomData<B>,
+}
 
-impl TableRule<Slot, View, Setting> for SchedulerRule {
-    ghost holds = { Shown };
+impl<B: WorkBrand> TableRule<Slot, View, Setting> for SchedulerRule<B> {
+    ghost holds = { ShownWith B.work };
 
     ghost first = { first_view };
 }
 
 /// A try to claim a node.
-pub struct Claim;
+pub struct Claim<B: WorkBrand> {
+    of: PhantomData<B>,
+}
 
-impl Play<Slot, View> for Claim {
-    ghost then = { claimed };
+impl<B: WorkBrand> Play<Slot, View> for Claim<B> {
+    ghost then = { claimed B.work };
 }
 
 /// A claim of a number past the last node, which is refused.
-pub struct ClaimOutOfRange;
+pub struct ClaimOutOfRange<B: WorkBrand> {
+    of: PhantomData<B>,
+}
 
-impl Play<Slot, View> for ClaimOutOfRange {
-    ghost then = { strayed };
+impl<B: WorkBrand> Play<Slot, View> for ClaimOutOfRange<B> {
+    ghost then = { strayed B.work };
 }
 
 /// The draw of a tick, which starts or ends a leaf.
@@ -69,10 +80,12 @@ impl Play<Slot, View> for Arrive {
 }
 
 /// A look whether the root is done.
-pub struct LookAtRoot;
+pub struct LookAtRoot<B: WorkBrand> {
+    of: PhantomData<B>,
+}
 
-impl Play<Slot, View> for LookAtRoot {
-    ghost then = { looked_at_root };
+impl<B: WorkBrand> Play<Slot, View> for LookAtRoot<B> {
+    ghost then = { looked_at_root B.work };
 }
 
 /// A look at the number of published batches.
@@ -106,17 +119,21 @@ impl Play<Slot, View> for Post {
 }
 
 /// A try for the flag. The winner takes the shop and the book from the table.
-pub struct Win;
+pub struct Win<B: WorkBrand> {
+    of: PhantomData<B>,
+}
 
-impl Play<Slot, View> for Win {
-    ghost then = { won };
+impl<B: WorkBrand> Play<Slot, View> for Win<B> {
+    ghost then = { won B.work };
 }
 
 /// A look at the next worker, which takes its call if that is pending.
-pub struct Take;
+pub struct Take<B: WorkBrand> {
+    of: PhantomData<B>,
+}
 
-impl Play<Slot, View> for Take {
-    ghost then = { took };
+impl<B: WorkBrand> Play<Slot, View> for Take<B> {
+    ghost then = { took B.work };
 }
 
 /// A look at the batch count before a publish: the book has room, and stays a history with the batch.
@@ -155,17 +172,21 @@ impl Play<Slot, View> for ReleaseBoth {
 }
 
 /// A try to leave with the receipt of the posted call.
-pub struct Leave;
+pub struct Leave<B: WorkBrand> {
+    of: PhantomData<B>,
+}
 
-impl Play<Slot, View> for Leave {
-    ghost then = { left };
+impl<B: WorkBrand> Play<Slot, View> for Leave<B> {
+    ghost then = { left B.work };
 }
 
 /// The setting of the stop word.
-pub struct Stop;
+pub struct Stop<B: WorkBrand> {
+    of: PhantomData<B>,
+}
 
-impl Play<Slot, View> for Stop {
-    ghost then = { stopped_all };
+impl<B: WorkBrand> Play<Slot, View> for Stop<B> {
+    ghost then = { stopped_all B.work };
 }
 
 /// A look at the value of the source of the task's leaf.
@@ -176,8 +197,10 @@ impl Play<Slot, View> for LookAtValue {
 }
 
 /// A look whether the stop word is set.
-pub struct LookAtStop;
+pub struct LookAtStop<B: WorkBrand> {
+    of: PhantomData<B>,
+}
 
-impl Play<Slot, View> for LookAtStop {
-    ghost then = { looked_at_stop };
+impl<B: WorkBrand> Play<Slot, View> for LookAtStop<B> {
+    ghost then = { looked_at_stop B.work };
 }

@@ -41,7 +41,7 @@ use Rattle.table_rule.specs.declared.slot.Slot.TheVariants as Slots
 use Rattle.table_rule.specs.Words.{stop_at, flag_at, shop_at, book_at, status_code, flag_code, WordsShow}
 use Rattle.table_rule.specs.Laws.{Laws}
 use Rattle.table_rule.specs.Steps.{ShowsOne, StepRefines, TryMakes, MakesEvent, MakesLeave}
-use Rattle.table_rule.specs.Tasks.{job_seen}
+use Rattle.table_rule.specs.Tasks.{job_seen_with}
 use Rattle.table_rule.proofs.StepLemmas.NextActs.{MayPost}
 use Rattle.table_rule.specs.Shows.{reserved, TableState, SlotHome, IsPrefix, IsRecordOf, RecordAt, ShopAt, IsBookHome, BookIf, BookAt, took_in, record_in, among, hold_of, HoldKnown, entry_of, Shows}
 use Rattle.table_rule.specs.Passes as W
@@ -257,13 +257,13 @@ module _ (job : CoreJob) (room : ℕ) (laws : Laws job) (slots id : ℕ) (v : Vi
   posts_at m call e enrolled is called = subst (λ (m : G.SeatState). StepRefines job room slots id m k (λ y. 1) (λ y. G.posted (step slots k 1 0 none) m 1) (MakesEvent job k (Post is.0 is.1))) (sym e) (posts call enrolled is called)
 
   -- a trapped pass tries for the flag
-  pub wins : v.workers ≡ P → v.own.call ≡ Out → v.room ≡ room → job_seen v ≡ job → StepRefines job room slots id (v, xs) (flag_at P) (λ y. either (eqb y 0) (k + 1) y) (G.won (step slots (flag_at P) 0 (k + 1) none) (v, xs)) (TryMakes 0 (MakesEvent job k Win))
+  pub wins : v.workers ≡ P → v.own.call ≡ Out → v.room ≡ room → job_seen_with job.work v ≡ job → StepRefines job room slots id (v, xs) (flag_at P) (λ y. either (eqb y 0) (k + 1) y) (G.won job.work (step slots (flag_at P) 0 (k + 1) none) (v, xs)) (TryMakes 0 (MakesEvent job k Win))
   wins sized out roomy seen t o wide me fits =
       let s = o.state in
       let miss = miss_of job room t o v (flag_at P) in
       let word = get_or t.words (flag_at P) 0 in
       let m = mine_of job room t o id k v me from to in
-      exchanged word 0 (k + 1) (λ y. (w : View) × (a : Act Slot) × Valid t.homes xs a × ShowsOne job room (TryMakes 0 (MakesEvent job k Win) s word) (stepped t (flag_at P) y id xs w a) × G.won (step slots (flag_at P) 0 (k + 1) none) (v, xs) word (w, carried_after xs a))
+      exchanged word 0 (k + 1) (λ y. (w : View) × (a : Act Slot) × Valid t.homes xs a × ShowsOne job room (TryMakes 0 (MakesEvent job k Win) s word) (stepped t (flag_at P) y id xs w a) × G.won job.work (step slots (flag_at P) 0 (k + 1) none) (v, xs) word (w, carried_after xs a))
       (λ zero.
       let open_ : s.hold ≡ None = free_flag s.hold (sym o.words.flag ∙ zero) in
       let shop = subst (λ (h : Maybe Hold). ShopAt h s.book (get_elem? t.homes P)) open_ o.slots.shop in
@@ -304,14 +304,14 @@ module _ (job : CoreJob) (room : ℕ) (laws : Laws job) (slots id : ℕ) (v : Vi
       ))
 
   -- a trapped pass without the flag tries to leave
-  pub leaves : v.enrolled ≡ true → v.own.call ≡ Out → v.own.hold ≡ None → job_seen v ≡ job → v.room ≡ room → StepRefines job room slots id (v, xs) k (λ y. either (eqb y 3) 0 y) (G.left (step slots k 3 0 none) (v, xs)) (TryMakes 3 (MakesLeave job k))
+  pub leaves : v.enrolled ≡ true → v.own.call ≡ Out → v.own.hold ≡ None → job_seen_with job.work v ≡ job → v.room ≡ room → StepRefines job room slots id (v, xs) k (λ y. either (eqb y 3) 0 y) (G.left job.work (step slots k 3 0 none) (v, xs)) (TryMakes 3 (MakesLeave job k))
   leaves enrolled out idle seen roomy t o wide me fits =
       let s = o.state in
       let miss = miss_of job room t o v k in
       let word = get_or t.words k 0 in
       let m = mine_of job room t o id k v me from to in
       let out' : s.call k ≡ Out = m.1.call ∙ out in
-      exchanged word 3 0 (λ y. (w : View) × (a : Act Slot) × Valid t.homes xs a × ShowsOne job room (TryMakes 3 (MakesLeave job k) s word) (stepped t k y id xs w a) × G.left (step slots k 3 0 none) (v, xs) word (w, carried_after xs a))
+      exchanged word 3 0 (λ y. (w : View) × (a : Act Slot) × Valid t.homes xs a × ShowsOne job room (TryMakes 3 (MakesLeave job k) s word) (stepped t k y id xs w a) × G.left job.work (step slots k 3 0 none) (v, xs) word (w, carried_after xs a))
       (λ three.
       let st = served_word (s.status k) (sym (o.words.statuses k m.0) ∙ three) in
       let r = st.0 in
@@ -384,8 +384,8 @@ module _ (job : CoreJob) (room : ℕ) (laws : Laws job) (slots id : ℕ) (v : Vi
   now_holds h f holds s known = subst (λ (z : Maybe HoldView). HoldKnown job s (W.in_hold f z) k) (sym holds) known
 
   -- the holder looks at the next worker
-  pub looks : (h : HoldView) (u : ℕ) → v.room ≡ call_count job → v.room ≡ room → job_seen v ≡ job → v.own.hold ≡ Some h → u ≡ h.looks → u < job.workers
-      → StepRefines job room slots id (v, xs) u (λ y. either (eqb y 1) 2 y) (G.took (step slots u 1 2 none) (v, xs)) (MakesEvent job k (Take u))
+  pub looks : (h : HoldView) (u : ℕ) → v.room ≡ call_count job → v.room ≡ room → job_seen_with job.work v ≡ job → v.own.hold ≡ Some h → u ≡ h.looks → u < job.workers
+      → StepRefines job room slots id (v, xs) u (λ y. either (eqb y 1) 2 y) (G.took job.work (step slots u 1 2 none) (v, xs)) (MakesEvent job k (Take u))
   looks h u roomy same_room seen holds next low t o wide me fits =
       let s = o.state in
       let miss = miss_of job room t o v u in
@@ -395,7 +395,7 @@ module _ (job : CoreJob) (room : ℕ) (laws : Laws job) (slots id : ℕ) (v : Vi
       let held : s.hold ≡ Some (hold_of k h) = known.0 in
       let stands = rw held at o.parts.hold in
       let unpublished : h.published ≡ false = not_published h.published h.looks job.workers stands.3 (omega (arith, next, low)) in
-      exchanged word 1 2 (λ y. (w : View) × (a : Act Slot) × Valid t.homes xs a × ShowsOne job room (MakesEvent job k (Take u) s word) (stepped t u y id xs w a) × G.took (step slots u 1 2 none) (v, xs) word (w, carried_after xs a))
+      exchanged word 1 2 (λ y. (w : View) × (a : Act Slot) × Valid t.homes xs a × ShowsOne job room (MakesEvent job k (Take u) s word) (stepped t u y id xs w a) × G.took job.work (step slots u 1 2 none) (v, xs) word (w, carried_after xs a))
       (λ one.
       let pending : s.status u ≡ Pending = pending_word (s.status u) (sym (o.words.statuses u low) ∙ one) in
       let what = subst (λ (z : Status). RecordAt job s.book (s.task u) z (get_elem? t.homes u)) pending (o.slots.records u low) in

@@ -27,7 +27,7 @@ use Rattle.table_rule.specs.Shows.{TableState, Shows, SinceKnown}
 use Rattle.table_rule.specs.Plays.{looked_at_root, looked_at_value, heard, strayed, stopped_all, looked_at_stop}
 use Rattle.table_rule.specs.Passes.{finding_stop, finding_none, refusing, least_told, telling}
 use Rattle.table_rule.specs.Views.{with_step, with_miss, with_since, with_stop, seeing_done, seeing_undone}
-use Rattle.table_rule.specs.Tasks.{job_seen}
+use Rattle.table_rule.specs.Tasks.{job_seen_with}
 use Rattle.table_rule.proofs.TableLemmas.Misses.{miss_of, noted_at, noted_at_stop, miss_seen, moment_seen, all_before}
 use Rattle.table_rule.proofs.TableLemmas.Facts.{is_trapped}
 use Rattle.table_rule.proofs.TableLemmas.Moved.{mine_of, at_below, looked, renewed}
@@ -57,7 +57,7 @@ module _ (job : CoreJob) (room : ℕ) (laws : Laws job) (slots id : ℕ) (v : Vi
   abbrev P : ℕ
   P = job.workers
 
-  pub looks_at_root : (i : ℕ) → v.workers ≡ P → i ≡ node_at P 0 → 0 < job.plan.count → job_seen v ≡ job → v.room ≡ room → StepRefines job room slots id (v, xs) i (λ y. y) (looked_at_root (step slots i 0 0 none) (v, xs)) (Stutters)
+  pub looks_at_root : (i : ℕ) → v.workers ≡ P → i ≡ node_at P 0 → 0 < job.plan.count → job_seen_with job.work v ≡ job → v.room ≡ room → StepRefines job room slots id (v, xs) i (λ y. y) (looked_at_root job.work (step slots i 0 0 none) (v, xs)) (Stutters)
   looks_at_root i sized is any known roomy t o wide me fits =
       let word = get_or t.words i 0 in
       let miss = miss_of job room t o v i in
@@ -116,13 +116,13 @@ module _ (job : CoreJob) (room : ℕ) (laws : Laws job) (slots id : ℕ) (v : Vi
       )
 
   -- a claim past the last node: a status is at most 3, so the exchange, which wants at least 4, is refused
-  pub strays : (n : ℕ) → v.nodes ≤ n → 0 < P → job_seen v ≡ job → v.room ≡ room → StepRefines job room slots id (v, xs) 0 (λ y. either (eqb y (4 + n)) 0 y) (strayed (step slots 0 (4 + n) 0 none) (v, xs)) (Stutters)
+  pub strays : (n : ℕ) → v.nodes ≤ n → 0 < P → job_seen_with job.work v ≡ job → v.room ≡ room → StepRefines job room slots id (v, xs) 0 (λ y. either (eqb y (4 + n)) 0 y) (strayed job.work (step slots 0 (4 + n) 0 none) (v, xs)) (Stutters)
   strays n far any known roomy t o wide me fits =
       let word = get_or t.words 0 0 in
       let miss = miss_of job room t o v 0 in
       let few = few_status (o.state.status 0) in
       let at = o.words.statuses 0 any in
-      exchanged word (4 + n) 0 (λ y. (w : View) × (a : Act Slot) × Valid t.homes xs a × ShowsOne job room (Stutters o.state word) (stepped t 0 y id xs w a) × strayed (step slots 0 (4 + n) 0 none) (v, xs) word (w, carried_after xs a))
+      exchanged word (4 + n) 0 (λ y. (w : View) × (a : Act Slot) × Valid t.homes xs a × ShowsOne job room (Stutters o.state word) (stepped t 0 y id xs w a) × strayed job.work (step slots 0 (4 + n) 0 none) (v, xs) word (w, carried_after xs a))
       (λ e. absurd (omega (arith, few, at, e)))
       (λ ne. (
         with_miss miss (refusing n) v,
@@ -165,7 +165,7 @@ module _ (job : CoreJob) (room : ℕ) (laws : Laws job) (slots id : ℕ) (v : Vi
       )
 
   -- the stop word is set
-  pub stops : v.workers ≡ P → job_seen v ≡ job → v.room ≡ room → StepRefines job room slots id (v, xs) (stop_at P) (λ y. 1) (λ y. stopped_all (step slots (stop_at P) 1 0 none) (v, xs) 1) (Stutters)
+  pub stops : v.workers ≡ P → job_seen_with job.work v ≡ job → v.room ≡ room → StepRefines job room slots id (v, xs) (stop_at P) (λ y. 1) (λ y. stopped_all job.work (step slots (stop_at P) 1 0 none) (v, xs) 1) (Stutters)
   stops sized known roomy t o wide me fits =
       let s = o.state in
       let moment = length o.trace in
@@ -184,7 +184,7 @@ module _ (job : CoreJob) (room : ℕ) (laws : Laws job) (slots id : ℕ) (v : Vi
       )
 
   -- and looked at
-  pub looks_at_stop : v.workers ≡ P → job_seen v ≡ job → v.room ≡ room → StepRefines job room slots id (v, xs) (stop_at P) (λ y. y) (looked_at_stop (step slots (stop_at P) 0 0 none) (v, xs)) (Stutters)
+  pub looks_at_stop : v.workers ≡ P → job_seen_with job.work v ≡ job → v.room ≡ room → StepRefines job room slots id (v, xs) (stop_at P) (λ y. y) (looked_at_stop job.work (step slots (stop_at P) 0 0 none) (v, xs)) (Stutters)
   looks_at_stop sized known roomy t o wide me fits =
       let word = get_or t.words (stop_at P) 0 in
       let miss = miss_of job room t o v (stop_at P) in elim (cases_eq word 1) [

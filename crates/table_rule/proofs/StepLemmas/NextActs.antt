@@ -22,7 +22,7 @@ use Rattle.table_rule.specs.declared.slot.OpRecord.{OpRecord}
 use Rattle.table_rule.specs.declared.view.View.{View}
 use Rattle.table_rule.specs.Laws.{Laws}
 use Rattle.table_rule.specs.DueActs.{op_told, IsPostDue, IsKeepDueWith}
-use Rattle.table_rule.specs.Tasks.{IsPar, TaskHere, progress_after, job_seen, IsNext}
+use Rattle.table_rule.specs.Tasks.{IsPar, TaskHere, progress_after, job_seen_with, IsNext}
 use Rattle.table_rule.proofs.StepLemmas.Sides.{block_in, side_below}
 use Rattle.core_model.proofs.InvariantLemmas.Finish.{idle_after, whole_after}
 
@@ -35,7 +35,7 @@ pub record Opens (job : CoreJob) (task : Task) (n : ℕ) (y : Task) (event : Eve
   pub parent : ℕ
   pub side : IsSide job.plan parent n
   pub below : n < job.plan.count
-  pub here : TaskHere job y
+  pub here : TaskHere job.plan y
   pub happens : HappensFor job task event (λ s k. record s { node = put s.node n Ready; task = put s.task k y })
 
 -- n is marked as done
@@ -154,7 +154,7 @@ module _ (job : CoreJob) (laws : Laws job) (call : CallState) where
   }
   handed_stands p _ is = tt
 
-  pub act_stands : (task : Task) → TaskHere job task → ActStands job task call (next_act job task call)
+  pub act_stands : (task : Task) → TaskHere job.plan task → ActStands job task call (next_act job task call)
   act_stands Idle here = tt
   act_stands (Run n) here = run_stands n (job.plan.kind n) refl
   act_stands (Half p) here = half_stands p (job.plan.kind p) refl
@@ -171,28 +171,28 @@ module _ (job : CoreJob) (laws : Laws job) (call : CallState) where
   act_stands (Handed p) here = handed_stands p (job.plan.kind p) refl
 
   -- what this act, which is the next one, says of the task
-  pub next_stands : (task : Task) (next : Next) → TaskHere job task → next_act job task call ≡ Some next → ActStands job task call (Some next)
+  pub next_stands : (task : Task) (next : Next) → TaskHere job.plan task → next_act job task call ≡ Some next → ActStands job task call (Some next)
   next_stands task next here is = subst (ActStands job task call) is (act_stands task here)
 
-  pub may_post : (told : Maybe ℕ) (task : Task) (posted : OpRecord) → TaskHere job task → IsPostDue job.source told (next_act job task call) posted → (call ≡ NotCalled) × MayPost job told task posted
+  pub may_post : (told : Maybe ℕ) (task : Task) (posted : OpRecord) → TaskHere job.plan task → IsPostDue job.source told (next_act job task call) posted → (call ≡ NotCalled) × MayPost job told task posted
   may_post told task posted here due = post_by job task call told (next_act job task call) posted due (act_stands task here)
 
-  pub has_value : (task : Task) (value : ℕ) → TaskHere job task → IsKeepDueWith job.work (next_act job task call) value → HasValue job task call value
+  pub has_value : (task : Task) (value : ℕ) → TaskHere job.plan task → IsKeepDueWith job.work (next_act job task call) value → HasValue job task call value
   has_value task value here due = keep_by job task call (next_act job task call) value due (act_stands task here)
 
 -- the next act by the view is the job's, and the other way round
-pub act_is : (job : CoreJob) (v : View) (one two : Next) → job_seen v ≡ job → next_act job v.own.task v.own.call ≡ Some two → IsNext v one → one ≡ two
+pub act_is : (job : CoreJob) (v : View) (one two : Next) → job_seen_with job.work v ≡ job → next_act job v.own.task v.own.call ≡ Some two → IsNext v one → one ≡ two
 act_is job v one two known due is = let there = subst (λ (j : CoreJob). next_act j v.own.task v.own.call ≡ Some one) known is in cc
 
-pub next_seen : (job : CoreJob) (v : View) (next : Next) → job_seen v ≡ job → next_act job v.own.task v.own.call ≡ Some next → IsNext v next
+pub next_seen : (job : CoreJob) (v : View) (next : Next) → job_seen_with job.work v ≡ job → next_act job v.own.task v.own.call ≡ Some next → IsNext v next
 next_seen job v next known is = subst (λ (j : CoreJob). next_act j v.own.task v.own.call ≡ Some next) (sym known) is
 
-pub after_here : (job : CoreJob) (n : ℕ) → n < job.plan.count → TaskHere job (task_after n)
+pub after_here : (job : CoreJob) (n : ℕ) → n < job.plan.count → TaskHere job.plan (task_after n)
 after_here job n below = elim (cases_eq n 0) [
-  | inl is ↦ subst (TaskHere job) (sym (idle_after n is)) tt
-  | inr other ↦ subst (TaskHere job) (sym (whole_after n other)) (below, other)
+  | inl is ↦ subst (TaskHere job.plan) (sym (idle_after n is)) tt
+  | inr other ↦ subst (TaskHere job.plan) (sym (whole_after n other)) (below, other)
 ]
 
 -- the task after the second arrival
-pub handed_here : (job : CoreJob) (laws : Laws job) (p l r : ℕ) → job.plan.kind p ≡ Some (ParNode l r) → TaskHere job (Handed p)
+pub handed_here : (job : CoreJob) (laws : Laws job) (p l r : ℕ) → job.plan.kind p ≡ Some (ParNode l r) → TaskHere job.plan (Handed p)
 handed_here job laws p l r kind = (block_in job.plan p (ParNode l r) laws.plan kind, subst IsPar (sym kind) tt)

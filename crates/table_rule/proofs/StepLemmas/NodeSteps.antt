@@ -26,7 +26,7 @@ use Rattle.core_model.specs.Operations.{leaf_of}
 use Rattle.table_rule.specs.declared.view.Miss.{Miss}
 use Rattle.table_rule.specs.declared.view.View.{View}
 use Rattle.table_rule.specs.declared.slot.Slot.{Slot}
-use Rattle.table_rule.specs.Tasks.{TaskHere, most_ticks, progress_after, job_seen, IsNext}
+use Rattle.table_rule.specs.Tasks.{TaskHere, most_ticks, progress_after, job_seen_with, IsNext}
 use Rattle.table_rule.specs.DueActs.{IsTickDue}
 use Rattle.table_rule.proofs.StepLemmas.NextActs.{act_is, next_stands}
 use Rattle.table_rule.proofs.StepLemmas.Sides.{block_in}
@@ -55,7 +55,7 @@ root_kept node n x undone done = grind (arith, nat_tests)
 root_done : (node : ℕ → Progress) (n : ℕ) (x : Progress) → is_done x ≡ true → is_done (node 0) ≡ true → is_done (put node n x 0) ≡ true
 root_done node n x is done = grind (arith, nat_tests)
 
-module _ (job : CoreJob) (room : ℕ) (laws : Laws job) (slots id : ℕ) (v : View) (xs : List (ℕ × Slot)) (k : ℕ) (from : v.own.worker ≡ k) (to : v.to ≡ k + 1) (sized : v.workers ≡ job.workers) (enrolled : v.enrolled ≡ true) (known : job_seen v ≡ job) where
+module _ (job : CoreJob) (room : ℕ) (laws : Laws job) (slots id : ℕ) (v : View) (xs : List (ℕ × Slot)) (k : ℕ) (from : v.own.worker ≡ k) (to : v.to ≡ k + 1) (sized : v.workers ≡ job.workers) (enrolled : v.enrolled ≡ true) (known : job_seen_with job.work v ≡ job) where
   abbrev P : ℕ
   P = job.workers
 
@@ -68,7 +68,7 @@ module _ (job : CoreJob) (room : ℕ) (laws : Laws job) (slots id : ℕ) (v : Vi
 
   -- a claim
   pub claims : v.room ≡ room → (n : ℕ) → n < job.plan.count → v.own.task ≡ Idle → v.own.call ≢ Out
-      → StepRefines job room slots id (v, xs) (node_at job.workers n) (λ y. either (eqb y 1) 2 y) (claimed (step slots (node_at job.workers n) 1 2 none) (v, xs)) (TryMakes 1 (MakesEvent job k (Claim n)))
+      → StepRefines job room slots id (v, xs) (node_at job.workers n) (λ y. either (eqb y 1) 2 y) (claimed job.work (step slots (node_at job.workers n) 1 2 none) (v, xs)) (TryMakes 1 (MakesEvent job k (Claim n)))
   claims roomy n below idle inside t o wide me fits =
       let s = o.state in
       let place = node_at job.workers n in
@@ -76,7 +76,7 @@ module _ (job : CoreJob) (room : ℕ) (laws : Laws job) (slots id : ℕ) (v : Vi
       let word = get_or t.words (node_at job.workers n) 0 in
       let m = mine_of job room t o id k v me from to in
       let inside' : s.call k ≢ Out = λ e. inside (sym m.1.call ∙ e) in
-      exchanged word 1 2 (λ y. (w : View) × (a : Act Slot) × Valid t.homes xs a × ShowsOne job room (TryMakes 1 (MakesEvent job k (Claim n)) s word) (stepped t (node_at job.workers n) y id xs w a) × claimed (step slots (node_at job.workers n) 1 2 none) (v, xs) word (w, carried_after xs a))
+      exchanged word 1 2 (λ y. (w : View) × (a : Act Slot) × Valid t.homes xs a × ShowsOne job room (TryMakes 1 (MakesEvent job k (Claim n)) s word) (stepped t (node_at job.workers n) y id xs w a) × claimed job.work (step slots (node_at job.workers n) 1 2 none) (v, xs) word (w, carried_after xs a))
       (λ one.
       let ready : s.node n ≡ Ready = ready_word (s.node n) (sym (o.words.progress n below) ∙ one) in (
         with_step (claiming n) v,
@@ -135,7 +135,7 @@ module _ (job : CoreJob) (room : ℕ) (laws : Laws job) (slots id : ℕ) (v : Vi
   is_due : (one two : Next) → next_act job v.own.task v.own.call ≡ Some two → IsNext v one → one ≡ two
   is_due one two due is = act_is job v one two known due is
 
-  pub starts : (n leaf : ℕ) → TaskHere job v.own.task → next_act job v.own.task v.own.call ≡ Some (acts.Start n leaf) → v.own.call ≢ Out
+  pub starts : (n leaf : ℕ) → TaskHere job.plan v.own.task → next_act job v.own.task v.own.call ≡ Some (acts.Start n leaf) → v.own.call ≢ Out
       → StepRefines job room slots id (v, xs) (tick_at P) (λ y. (y + 1) % 2 ^ 64) (drawn (step slots (tick_at P) 1 0 none) (v, xs)) (MakesEvent job k (Start n))
   starts n leaf here due inside =
       let stands = next_stands job laws v.own.call v.own.task (acts.Start n leaf) here due in
@@ -147,7 +147,7 @@ module _ (job : CoreJob) (room : ℕ) (laws : Laws job) (slots id : ℕ) (v : Vi
       ))
       (λ t o me. let m = mine_of job room t o id k v me from to in record { worker_in = m.0; needs = (is_free job o.state k o.parts (outside t o me inside), m.1.task ∙ stands.0, stands.1); does = refl })
 
-  pub ends : (n start : ℕ) → TaskHere job v.own.task → next_act job v.own.task v.own.call ≡ Some (acts.End n start) → v.own.call ≢ Out
+  pub ends : (n start : ℕ) → TaskHere job.plan v.own.task → next_act job v.own.task v.own.call ≡ Some (acts.End n start) → v.own.call ≢ Out
       → StepRefines job room slots id (v, xs) (tick_at P) (λ y. (y + 1) % 2 ^ 64) (drawn (step slots (tick_at P) 1 0 none) (v, xs)) (MakesEvent job k (End n start))
   ends n start here due inside =
       let stands = next_stands job laws v.own.call v.own.task (acts.End n start) here due in
@@ -160,14 +160,14 @@ module _ (job : CoreJob) (room : ℕ) (laws : Laws job) (slots id : ℕ) (v : Vi
       ))
       (λ t o me. let m = mine_of job room t o id k v me from to in record { worker_in = m.0; needs = (is_free job o.state k o.parts (outside t o me inside), m.1.task ∙ stands); does = refl })
 
-  draws_by : (o : Maybe Next) → TaskHere job v.own.task → next_act job v.own.task v.own.call ≡ o → IsTickDue o → v.own.call ≢ Out
+  draws_by : (o : Maybe Next) → TaskHere job.plan v.own.task → next_act job v.own.task v.own.call ≡ o → IsTickDue o → v.own.call ≢ Out
       → StepRefines job room slots id (v, xs) (tick_at P) (λ y. (y + 1) % 2 ^ 64) (drawn (step slots (tick_at P) 1 0 none) (v, xs)) (λ before found after. (event : Event) × MakesEvent job k event before found after)
   draws_by (Some (acts.Start n leaf)) here due is inside t o wide me fits = let x = starts n leaf here due inside t o wide me fits in (x.0, x.1, x.2, (x.3.0, (Start n, x.3.1)), x.4)
   draws_by (Some (acts.End n start)) here due is inside t o wide me fits = let x = ends n start here due inside t o wide me fits in (x.0, x.1, x.2, (x.3.0, (End n start, x.3.1)), x.4)
   draws_by _ here due is inside t o wide me fits = absurd is
 
   -- a tick that is due, at its start or its end
-  pub draws_due : TaskHere job v.own.task → IsTickDue (next_act job v.own.task v.own.call) → v.own.call ≢ Out
+  pub draws_due : TaskHere job.plan v.own.task → IsTickDue (next_act job v.own.task v.own.call) → v.own.call ≢ Out
       → StepRefines job room slots id (v, xs) (tick_at P) (λ y. (y + 1) % 2 ^ 64) (drawn (step slots (tick_at P) 1 0 none) (v, xs)) (λ before found after. (event : Event) × MakesEvent job k event before found after)
   draws_due here due inside = draws_by (next_act job v.own.task v.own.call) here refl due inside
 
@@ -191,7 +191,7 @@ module _ (job : CoreJob) (room : ℕ) (laws : Laws job) (slots id : ℕ) (v : Vi
   far node n x ne done = rw (put_other node n 0 x (λ e. ne (sym e))) done
 
   -- a side of a block opens
-  pub opens : (n : ℕ) (y : Task) (event : Event) → TaskHere job v.own.task → next_act job v.own.task v.own.call ≡ Some (acts.Open n y event) → v.own.call ≢ Out
+  pub opens : (n : ℕ) (y : Task) (event : Event) → TaskHere job.plan v.own.task → next_act job v.own.task v.own.call ≡ Some (acts.Open n y event) → v.own.call ≢ Out
       → StepRefines job room slots id (v, xs) (node_at P n) (λ y. 1) (λ y. opened (step slots (node_at P n) 1 0 none) (v, xs) 1) (MakesEvent job k event)
   opens n y event here due inside t o wide me fits =
       let m = mine_of job room t o id k v me from to in
@@ -228,7 +228,7 @@ module _ (job : CoreJob) (room : ℕ) (laws : Laws job) (slots id : ℕ) (v : Vi
       )
 
   -- a leaf or a block is done
-  pub finishes : (n : ℕ) (event : Event) → TaskHere job v.own.task → next_act job v.own.task v.own.call ≡ Some (acts.Finish n event) → v.own.call ≢ Out
+  pub finishes : (n : ℕ) (event : Event) → TaskHere job.plan v.own.task → next_act job v.own.task v.own.call ≡ Some (acts.Finish n event) → v.own.call ≢ Out
       → StepRefines job room slots id (v, xs) (node_at P n) (λ y. progress_code (progress_after k v.own.task))
       (λ y. finished (step slots (node_at P n) (progress_code (progress_after k v.own.task)) 0 none) (v, xs) (progress_code (progress_after k v.own.task))) (MakesEvent job k event)
   finishes n event here due inside t o wide me fits =
@@ -249,7 +249,7 @@ module _ (job : CoreJob) (room : ℕ) (laws : Laws job) (slots id : ℕ) (v : Vi
   arrived_word y = (y + 1) % 2 ^ 64
 
   -- a side arrives at a parallel block
-  pub arrives : (i p l r n : ℕ) → i ≡ mark_at P N p → TaskHere job v.own.task → next_act job v.own.task v.own.call ≡ Some (acts.Arrive p l r n) → v.own.call ≢ Out
+  pub arrives : (i p l r n : ℕ) → i ≡ mark_at P N p → TaskHere job.plan v.own.task → next_act job v.own.task v.own.call ≡ Some (acts.Arrive p l r n) → v.own.call ≢ Out
       → StepRefines job room slots id (v, xs) i (λ y. (y + 1) % 2 ^ 64) (arrived (step slots i 1 0 none) (v, xs)) (ArrivalMakes (MakesEvent job k (ArriveFirst p l r n)) (MakesEvent job k (ArriveSecond p l r n)))
   arrives i p l r n is here due inside t o wide me fits =
       let (task, kind, side) = next_stands job laws v.own.call v.own.task (acts.Arrive p l r n) here due in

@@ -16,5 +16,5 @@ block_in plan p kind laws e = laws.within p (some_none (plan.kind p) kind e)
 pub side_below : (plan : Nodes) (p n : ℕ) → IsPlan plan → IsSide plan p n → n < plan.count
 side_below plan p n laws side = laws.within n (laws.inside p n side)
 
-pub started_in : (job : CoreJob) (task : Task) (n s : ℕ) → task ≡ Started n s → TaskHere job task → n < job.plan.count
+pub started_in : (job : CoreJob) (task : Task) (n s : ℕ) → task ≡ Started n s → TaskHere job.plan task → n < job.plan.count
 started_in job task n s e h = let h' = rw e at h in h'.0

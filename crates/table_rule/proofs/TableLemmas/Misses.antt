@@ -11,7 +11,7 @@ use Rattle.table_rule.specs.declared.view.View.{View}
 use Rattle.table_rule.specs.Words.{stop_at}
 use Rattle.table_rule.specs.Shows.{TableState, IsTrueIn, Shows}
 use Rattle.table_rule.specs.Moments.{IsMomentOf, IsMissAt}
-use Rattle.table_rule.specs.Tasks.{job_seen}
+use Rattle.table_rule.specs.Tasks.{job_seen_with}
 use Rattle.table_rule.proofs.TableLemmas.Traces.{IsNoted, true_now, within_trace}
 
 -- the miss of a look at the word at `place`, by a pass of view v
@@ -39,10 +39,10 @@ module _ (job : CoreJob) (room : ℕ) (t : TableState) (o : Shows job room t) (i
   now = record { table = t; shown = o; seat = id; seated = me; long = refl; own = o.events id v v.own.worker me (omega arith) (omega arith); later = all_before job room t o id k v me (omega arith) (omega arith) }
 
   -- the moment of the look, and its miss, by the job and the room that the view tells
-  pub moment_seen : job_seen v ≡ job → v.room ≡ room → IsMomentOf (job_seen v) v.room v (length o.trace)
+  pub moment_seen : job_seen_with job.work v ≡ job → v.room ≡ room → IsMomentOf (job_seen_with job.work v) v.room v (length o.trace)
   moment_seen seen roomy = subst (λ (j : CoreJob). IsMomentOf j v.room v (length o.trace)) (sym seen) (subst (λ (r : ℕ). IsMomentOf job r v (length o.trace)) (sym roomy) now)
 
-  pub miss_seen : job_seen v ≡ job → v.room ≡ room → (place : ℕ) → IsMissAt (job_seen v) v.room v place (miss_of job room t o v place)
+  pub miss_seen : job_seen_with job.work v ≡ job → v.room ≡ room → (place : ℕ) → IsMissAt (job_seen_with job.work v) v.room v place (miss_of job room t o v place)
   unfolding now
   miss_seen seen roomy place = subst (λ (j : CoreJob). IsMissAt j v.room v place (miss_of job room t o v place)) (sym seen) (subst (λ (r : ℕ). IsMissAt job r v place (miss_of job room t o v place)) (sym roomy)
       record { word = refl; events = refl; at = now; found = refl })

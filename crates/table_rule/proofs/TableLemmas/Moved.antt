@@ -38,7 +38,7 @@ use Rattle.core_model.specs.declared.setting.Setting.{Setting}
 use Rattle.table_rule.specs.Steps.{ShowsOne, TryMakes, ArrivalMakes}
 use Rattle.table_rule.specs.Plays.{SeatState}
 use Rattle.table_rule.specs.Laws.{Laws}
-use Rattle.table_rule.specs.Shows.{TableState, HasSeat, IsRecordOf, RecordAt, SlotsShow, took_in, record_in, among, hold_of, HoldKnown, entry_of, present, SinceKnown, AgreesWithView, Shows, Shown, MissesAgree, StopShows}
+use Rattle.table_rule.specs.Shows.{TableState, HasSeat, IsRecordOf, RecordAt, SlotsShow, took_in, record_in, among, hold_of, HoldKnown, entry_of, present, SinceKnown, AgreesWithView, Shows, ShownWith, MissesAgree, StopShows}
 use Rattle.table_rule.proofs.TableLemmas.Facts.{is_free, is_trapped, not_taken}
 use Rattle.core_model.specs.Lists.{ready_after}
 use Rattle.table_rule.specs.Words.{stop_at}
@@ -299,8 +299,8 @@ job_step job room laws t o id k v w words event node mark value tick call y happ
     })
 
 -- the key of a table is its setting
-pub keyed : (key setting : Setting) (slots id : ℕ) (me : SeatState) (i : ℕ) (f : ℕ → ℕ) (tells : ℕ → SeatState → Type 0) → key ≡ setting → Allows (Shown setting) slots id me i f tells → Allows (Shown key) slots id me i f tells
-keyed key setting slots id me i f tells e h = subst (λ (y : Setting). Allows (Shown y) slots id me i f tells) (sym e) h
+pub keyed : (work : ℕ → ℕ) (key setting : Setting) (slots id : ℕ) (me : SeatState) (i : ℕ) (f : ℕ → ℕ) (tells : ℕ → SeatState → Type 0) → key ≡ setting → Allows (ShownWith work setting) slots id me i f tells → Allows (ShownWith work key) slots id me i f tells
+keyed work key setting slots id me i f tells e h = subst (λ (y : Setting). Allows (ShownWith work y) slots id me i f tells) (sym e) h
 
 pub few_nodes : (nodes count : ℕ) → nodes ≡ count → nodes < 2 * MOST_LEAVES → count < 2 * MOST_LEAVES
 few_nodes nodes count e h = omega (arith, e, h)

@@ -4,13 +4,12 @@ use Rattle.sp_order.specs.Preorder.{nodes_of}
 use Rattle.std.proofs.Common.{inl}
 use Rattle.core_model.specs.Operations.{Place, or_else, place_in}
 use Rattle.core_model.proofs.BookLemmas.CallsIn.{call_within}
-use Rattle.table_rule.specs.Shows.{job_of}
-use Rattle.seq_objects.specs.Spin.{spin_of}
+use Rattle.core_model.specs.Settings.{job_with}
 use Rattle.table_rule.proofs.laws.laws_hold.Goals as goal
 
 pub returns : goal.returns
-returns c key few leaves short sources =
-    let job = job_of key in
+returns c work key few leaves short sources =
+    let job = job_with work key in
     let stands = c.plan_stands_for_tree.ensures (job_tree key.job) in
     let plan = c.plan_has_sides.ensures (nodes_of (job_tree key.job)) (job_tree key.job) stands in
     let root = (c.plan_has_root.ensures (nodes_of (job_tree key.job)) (job_tree key.job) stands).0 in record {
@@ -22,7 +21,7 @@ returns c key few leaves short sources =
       few = few;
       mark = λ s w p l r n parts task kind side. c.mark_before_arrival_is_below_two.ensures job s w p l r n plan parts task kind side;
       batches = λ s parts. c.calls_have_room.ensures.batches job s parts;
-      room = λ s workers parts distinct unserved. (c.calls_have_room.ensures.tree spin_of key.job key.workers s workers leaves parts distinct unserved).0;
+      room = λ s workers parts distinct unserved. (c.calls_have_room.ensures.tree work key.job key.workers s workers leaves parts distinct unserved).0;
       untaken = λ old new worker parts happens. c.publish_adds_the_taken_call.ensures.untaken job old new worker plan parts happens;
       taken = λ old new worker parts happens. c.publish_adds_the_taken_call.ensures.taken job old new worker plan parts happens;
       receipt = λ s worker node leaf op receipt parts served started is. c.receipt_is_of_the_own_entry.ensures job s worker node leaf op receipt parts (inl served) started is;

@@ -5,15 +5,15 @@ use Rattle.table_rule.specs.declared.view.View.{View}
 use Rattle.table_rule.proofs.laws.the_stop_word_is_set_by_a_pass.Goals as goal
 
 pub returns-clause-found : goal.returns-clause-found
-returns-clause-found c key t shown id v at some_found =
+returns-clause-found c work key t shown id v at some_found =
     let b = shown.stop.by (shown.stop.found id v at some_found) in (b.0, b.1, b.2, b.3)
 
 pub returns-clause-stays : goal.returns-clause-stays
-returns-clause-stays c key t shown id v at some_stops = shown.stop.set id v at some_stops
+returns-clause-stays c work key t shown id v at some_stops = shown.stop.set id v at some_stops
 
 -- the one seat of the lowest worker of the setter's seat has set nothing
 pub returns-clause-unset : goal.returns-clause-unset
-returns-clause-unset c key t shown none_set = ⊎_elim
+returns-clause-unset c work key t shown none_set = ⊎_elim
     (λ zero. zero)
     (λ one.
     let b = shown.stop.by one in
@@ -29,4 +29,4 @@ returns-clause-unset c key t shown none_set = ⊎_elim
     shown.stop.known
 
 pub returns-clause-before : goal.returns-clause-before
-returns-clause-before c key t shown id by v u at some_worker set = shown.stop.unset id by v u at some_worker set
+returns-clause-before c work key t shown id by v u at some_worker set = shown.stop.unset id by v u at some_worker set

@@ -11,6 +11,7 @@ use Rattle.core_model.specs.Next.{next_act}
 use Rattle.core_model.specs.declared.next.Next.{Next}
 use Rattle.table_rule.specs.declared.view.HoldView.{HoldView}
 use Rattle.table_rule.specs.declared.view.Miss.{Miss}
+use Rattle.core_model.specs.Settings.{job_with}
 use Rattle.core_model.specs.State.{CoreJob}
 use Rattle.table_rule.specs.declared.slot.Slot.{Slot}
 use Rattle.table_rule.specs.declared.view.PassView.{PassView}
@@ -26,18 +27,18 @@ use Rattle.table_rule.specs.HoldsSlots.{HoldsSlots}
 use Rattle.table_rule.specs.TracksHold.{TracksHold}
 
 -- the setting that a table is made for: a planned job and a number of workers
-abbrev pub setting_in : CoreTable → Setting
+abbrev pub setting_in : {B : Type 0} → CoreTable B → Setting
 setting_in table = table.setting
 
 -- the setting's job: `planned_in` with its plan as `sp_order` has it, `job_in` as the core's rules speak of it
-abbrev pub planned_in : CoreTable → JobValue
+abbrev pub planned_in : {B : Type 0} → CoreTable B → JobValue
 planned_in table = (setting_in table).job
 
-abbrev pub job_in : CoreTable → CoreJob
+abbrev pub job_in : {B : Type 0} → CoreTable B → CoreJob
 job_in table = job_of (setting_in table)
 
 -- the view of worker w's pass on a new table
-abbrev pub opening_view : CoreTable → ℕ → View
+abbrev pub opening_view : {B : Type 0} → CoreTable B → ℕ → View
 opening_view table w = record (first_view table.setting) { own = unused w; to = w + 1; enrolled = true }
 
 -- the view of a pass's seat
@@ -49,7 +50,7 @@ abbrev pub pass_view : Pass → PassView
 pass_view pass = (view pass).own
 
 -- the next act of a pass, by its task and the state of its call
-abbrev pub next_in : CoreTable → PassView → Option Next
+abbrev pub next_in : {B : Type 0} → CoreTable B → PassView → Option Next
 next_in table pass = next_act (job_in table) pass.task pass.call
 
 -- the pass's call is outstanding: posted, and not left
@@ -60,11 +61,12 @@ abbrev pub IsNotTrapped : Pass → Type 0
 IsNotTrapped pass = (view pass).own.call ≢ Out
 
 -- A moment of a call with this pass, and what the call finds in the word at `place`, where that is not what it looks for.
-unfoldable pub IsMomentIn : CoreTable → Pass → ℕ → Type 0
-IsMomentIn table pass moment = IsMomentOf (job_in table) (room_of (setting_in table)) (view pass) moment
+-- The leaves of work compute `work`.
+unfoldable pub IsMomentIn : {B : Type 0} → (ℕ → ℕ) → CoreTable B → Pass → ℕ → Type 0
+IsMomentIn work table pass moment = IsMomentOf (job_with work (setting_in table)) (room_of (setting_in table)) (view pass) moment
 
-unfoldable pub IsMissOf : CoreTable → Pass → ℕ → Miss → Type 0
-IsMissOf table pass place miss = IsMissAt (job_in table) (room_of (setting_in table)) (view pass) place miss
+unfoldable pub IsMissOf : {B : Type 0} → (ℕ → ℕ) → CoreTable B → Pass → ℕ → Miss → Type 0
+IsMissOf work table pass place miss = IsMissAt (job_with work (setting_in table)) (room_of (setting_in table)) (view pass) place miss
 
 -- each of these passes has a seat at the table in this state
 abbrev pub AreSeated : TableState → List Pass → Type 0
@@ -80,9 +82,9 @@ abbrev pub IsSeatOf : Setting → TableId → ℕ → Seat Slot View → List �
 IsSeatOf setting table worker seat owed published =
     (seat.table_id ≡ table) × (worker < setting.workers) × (seat.me.0.workers ≡ setting.workers)
     × (seat.me.0.nodes ≡ (job_of setting).plan.count) × (seat.me.0.enrolled ≡ true)
-    × TaskHere (job_of setting) seat.me.0.own.task × (seat.me.0.room ≡ room_of setting) × HoldsSlots worker seat.me
+    × TaskHere (job_of setting).plan seat.me.0.own.task × (seat.me.0.room ≡ room_of setting) × HoldsSlots worker seat.me
     × TracksHold seat.me.0 owed published × (job_seen seat.me.0 ≡ job_of setting) × LooksFit setting.workers seat.me.0.own.hold
 
 -- the pass belongs to this table
-abbrev pub IsPassOf : CoreTable → Pass → Type 0
+abbrev pub IsPassOf : {B : Type 0} → CoreTable B → Pass → Type 0
 IsPassOf table pass = IsSeatOf table.setting table.table.shared.table_id pass.worker pass.seat pass.owed.items pass.published

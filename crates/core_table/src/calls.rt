@@ -22,12 +22,13 @@ use crate::table::{CoreTable, Pass};
 use batch_history::Batch;
 use core_model::{CallState, Receipt};
 use launch_batch::Shop;
+use leaf_work::WorkBrand;
 use table_rule::plays::{
     Answer, CheckRoom, Leave, Post, Publish, ReleaseBoth, ReleaseShop, Take, Win,
 };
 use table_rule::{EXECUTING, FREE, OpRecord, PENDING, SERVED, Slot};
 
-impl CoreTable {
+impl<B: WorkBrand> CoreTable<B> {
     /// Posts the call of the started leaf. The call of a leaf with a source has the value that `source_value` told. The
     /// pass is trapped from then until its `leave` succeeds.
     pub fn post(&self, pass: &mut Pass, call: OpRecord)
@@ -55,7 +56,7 @@ impl CoreTable {
             (view pass.new ≡ with_step (winning shop) (view pass.old))
             × IsPrefix (view pass.old).own.book_seen shop) }
         ensures lost { IfNone result ((miss : Miss)
-            × ((miss.found ≢ 0) × IsMissOf self.now pass.old (flag_at (job_in self.now).workers) miss)
+            × ((miss.found ≢ 0) × IsMissOf B.work self.now pass.old (flag_at (job_in self.now).workers) miss)
             × (view pass.new ≡ with_miss miss refusing_win (view pass.old))) }
     {
         self.laws_hold();
@@ -63,7 +64,7 @@ impl CoreTable {
         let layout = self.layout();
         let at = layout.flag();
         let mine = pass.worker as u64 + 1;
-        if shared.compare_exchange::<Win>(&mut pass.seat, at, 0, mine) != 0 {
+        if shared.compare_exchange::<Win<B>>(&mut pass.seat, at, 0, mine) != 0 {
             return None;
         }
         let home = layout.shop_slot();
@@ -94,13 +95,13 @@ impl CoreTable {
             × ((view pass.old).own.before ≤ receipt.batch)
             × ((since : ℕ) → (view pass.old).own.after ≡ Some since → receipt.batch ≤ since + 1)) }
         ensures stays { IfNone result ((miss : Miss)
-            × ((miss.found ≢ SERVED) × IsMissOf self.now pass.old (view pass.old).own.worker miss)
+            × ((miss.found ≢ SERVED) × IsMissOf B.work self.now pass.old (view pass.old).own.worker miss)
             × (view pass.new ≡ with_miss miss refusing_leave (view pass.old))) }
     {
         self.laws_hold();
         let shared = &self.table.shared;
         let at = pass.worker as usize;
-        let seen = shared.compare_exchange::<Leave>(&mut pass.seat, at, SERVED, FREE);
+        let seen = shared.compare_exchange::<Leave<B>>(&mut pass.seat, at, SERVED, FREE);
         if seen != SERVED {
             return None;
         }
@@ -124,12 +125,12 @@ impl CoreTable {
             × (op_of (job_in self.now) h.book call.leaf ≡ Some call.op)
             × (view pass.new ≡ with_step (taking (call_by u call)) (view pass.old))) }
         ensures passed { IfNone result ((miss : Miss)
-            × ((miss.found ≢ PENDING) × IsMissOf self.now pass.old u miss)
+            × ((miss.found ≢ PENDING) × IsMissOf B.work self.now pass.old u miss)
             × (view pass.new ≡ with_miss miss (skipping u miss.found) (view pass.old))) }
     {
         self.laws_hold();
         let shared = &self.table.shared;
-        let seen = shared.compare_exchange::<Take>(&mut pass.seat, u as usize, PENDING, EXECUTING);
+        let seen = shared.compare_exchange::<Take<B>>(&mut pass.seat, u as usize, PENDING, EXECUTING);
         if seen != PENDING {
             return None;
         }

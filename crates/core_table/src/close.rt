@@ -5,12 +5,13 @@ ghost use Rattle.std.specs.Mem.Slots.{slots_items, slots_len, slots_filled, IsFu
 ghost use Rattle.sp_order.specs.Jobs.{job_tree};
 ghost use Rattle.sp_order.specs.Precedence.{leaves};
 ghost use Rattle.sp_order.specs.Preorder.{nodes_of};
-ghost use Rattle.batch_history.specs.Lawful.{Lawful};
+ghost use Rattle.batch_history.specs.Lawful.{LawfulWith};
 ghost use Rattle.table_rule.specs.Words.{word_count};
 ghost use Rattle.table_rule.specs.Shows.{IsPrefix, events_by, TableState};
 ghost use Rattle.core_table.specs.Passes.{IsPassOf, job_in, planned_in, setting_in, view};
 ghost use Rattle.core_table.specs.Closing.{RowInWords, IsReportOfTable};
-ghost use Rattle.core_model.specs.Reports.{IsRunFrom, IsRunReport};
+ghost use Rattle.core_model.specs.Reports.{IsRunFrom, IsRunReportWith};
+ghost use Rattle.core_model.specs.Settings.{job_with};
 ghost use Rattle.core_model.specs.State.{opening_core};
 ghost use mathlib.Core.Option.{some};
 ghost use lib.ListN.{get_elem?};
@@ -20,6 +21,7 @@ use crate::table::{CoreTable, Pass};
 use atomic_table::Closed;
 use batch_history::{Report, Row, Rows};
 use core_model::laws::report::{done_leaves_have_run, done_report_is_lawful};
+use leaf_work::WorkBrand;
 use sp_order::PlannedJob;
 use sp_order::laws::{leaf_has_one_node, plan_has_sides, plan_stands_for_tree};
 use std::alloc::{AllocError, Global};
@@ -73,7 +75,7 @@ fn drop_slots(closed: Closed<Slot, Global>, count: usize)
     closed.free();
 }
 
-impl CoreTable {
+impl<B: WorkBrand> CoreTable<B> {
     /// The number of leaves. Memory: none.
     fn leaf_total(&self) -> u32
         ensures { result ≡ leaves (job_tree (planned_in self.now)) }
@@ -88,15 +90,15 @@ impl CoreTable {
     pub fn close(self, alloc: Global, pass: Pass) -> Result<Report, AllocError>
         requires pass { IsPassOf self pass }
         requires saw { (view pass).saw_done ≡ true }
-        ensures lawful { IfOk result (λ report. Lawful (planned_in self)
+        ensures lawful { IfOk result (λ report. LawfulWith B.work (planned_in self)
             (job_in self).workers report) }
         ensures told { IfOk result (λ report. (t : TableState)
-            × IsReportOfTable (setting_in self) t report
+            × IsReportOfTable B.work (setting_in self) t report
             × ((id : ℕ) × (get_elem? t.views id ≡ some (view pass)))) }
         ensures run { IfOk result (λ report.
-            (run : IsRunFrom (job_in self) (leaves (job_tree (planned_in self))) opening_core report)
+            (run : IsRunFrom (job_with B.work (setting_in self)) (leaves (job_tree (planned_in self))) opening_core report)
             × (events_by (view pass).own.worker run.trace ≡ (view pass).own.events)) }
-        ensures model { IfOk result (IsRunReport (planned_in self) (job_in self).workers) }
+        ensures model { IfOk result (IsRunReportWith B.work (planned_in self) (job_in self).workers) }
         ensures seen { IfOk result (λ report. IsPrefix (view pass).own.book_seen report.history) }
     {
         self.laws_hold();

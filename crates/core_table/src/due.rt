@@ -9,6 +9,7 @@ ghost use Rattle.core_table.specs.Passes.{IsPassOf, job_in, next_in, pass_view, 
 
 use crate::table::{CoreTable, Pass};
 use core_model::Task;
+use leaf_work::WorkBrand;
 use sp_order::node::{Kind, Move};
 
 /// A side of a block that is to open, and the task that the pass has after that.
@@ -67,7 +68,7 @@ fn right_side(kind: Kind, parent: u32) -> Side
     }
 }
 
-impl CoreTable {
+impl<B: WorkBrand> CoreTable<B> {
     /// The side that the pass opens next. Memory: none.
     #[inline(always)]
     pub(crate) fn side_due(&self, pass: &Pass) -> Side

@@ -6,7 +6,7 @@ ghost use Rattle.sp_order.specs.Preorder.{nodes_of};
 ghost use Rattle.core_model.specs.State.{core_job};
 ghost use Rattle.core_model.specs.Measure.{call_count, one_if_call};
 ghost use Rattle.table_rule.specs.Words.{node_at, stop_at, word_count};
-ghost use Rattle.table_rule.specs.Shows.{reserved, Shown, TableState};
+ghost use Rattle.table_rule.specs.Shows.{reserved, ShownWith, TableState};
 ghost use Rattle.core_table.specs.Passes.{job_in, planned_in, setting_in, opening_view, AreSeated, IsPassOf, view};
 
 use crate::table::{CoreTable, Pass};
@@ -15,6 +15,7 @@ use batch_history::ReservedHistory;
 use core_model::laws::book::job_has_its_sources;
 use core_model::{CallState, Setting, Task};
 use launch_batch::Shop;
+use leaf_work::WorkBrand;
 use limits::MOST_WORKERS;
 use seq_objects::Act;
 use sp_order::node::Kind;
@@ -80,7 +81,7 @@ fn count_calls(job: &PlannedJob, nodes: u32) -> usize
     count
 }
 
-impl CoreTable {
+impl<B: WorkBrand> CoreTable<B> {
     /// The table of a job that has leaves, in the opening state, and one pass for each worker, in order of worker
     /// number.
     ///
@@ -89,7 +90,7 @@ impl CoreTable {
         alloc: Global,
         job: &Job,
         workers: u32,
-    ) -> Result<(CoreTable, Vec<Pass>), AllocError>
+    ) -> Result<(CoreTable<B>, Vec<Pass>), AllocError>
         requires leaves { IsSome job.now.shape }
         requires some_workers { 0 < workers }
         requires few_workers { workers ≤ MOST_WORKERS }
@@ -97,21 +98,21 @@ impl CoreTable {
         ensures count { IfOk result (λ r. length r.1.items ≡ workers) }
         ensures passes { IfOk result (λ r. (w : ℕ) → IfSome (slice_get r.1.items w)
             (λ pass. IsPassOf r.0 pass × (view pass ≡ opening_view r.0 w))) }
-        ensures unset { IfOk result (λ r. (t : TableState) → Shown (setting_in r.0) t → AreSeated t r.1.items
+        ensures unset { IfOk result (λ r. (t : TableState) → ShownWith B.work (setting_in r.0) t → AreSeated t r.1.items
             → slice_index t.words (stop_at (setting_in r.0).workers) ≡ 0) }
     {
         let setting = Setting::of(alloc, job, workers)?;
-        CoreTable::of(alloc, setting)
+        CoreTable::<B>::of(alloc, setting)
     }
 
     /// The table and the passes of a setting: a planned job and a number of workers.
-    fn of(alloc: Global, setting: Setting) -> Result<(CoreTable, Vec<Pass>), AllocError>
+    fn of(alloc: Global, setting: Setting) -> Result<(CoreTable<B>, Vec<Pass>), AllocError>
         requires workers { (0 < setting.workers) × (setting.workers ≤ MOST_WORKERS) }
         ensures table { IfOk result (λ r. setting_in r.0 ≡ setting) }
         ensures count { IfOk result (λ r. length r.1.items ≡ setting.workers) }
         ensures passes { IfOk result (λ r. (w : ℕ) → IfSome (slice_get r.1.items w)
             (λ pass. IsPassOf r.0 pass × (view pass ≡ opening_view r.0 w))) }
-        ensures unset { IfOk result (λ r. (t : TableState) → Shown (setting_in r.0) t → AreSeated t r.1.items
+        ensures unset { IfOk result (λ r. (t : TableState) → ShownWith B.work (setting_in r.0) t → AreSeated t r.1.items
             → slice_index t.words (stop_at (setting_in r.0).workers) ≡ 0) }
     {
         laws_hold();

@@ -4,7 +4,7 @@ ghost use Rattle.limits.specs.declared.TheConstants.{MOST_WORKERS};
 ghost use Rattle.core_model.specs.declared.next.Next.TheVariants as acts;
 ghost use Rattle.core_model.specs.Events.{task_after as next_task};
 ghost use Rattle.table_rule.specs.CoreWords.{Event, Task as TaskOf, Idle, Run, Started, Kept, Ended, Handed, Start as StartOf, End as EndOf, ArriveFirst, ArriveSecond};
-ghost use Rattle.table_rule.specs.DueActs.{IsTickDue, IsOpenDue, IsSourceDue, IsKeepDue, IsFinishDue, IsArriveDue};
+ghost use Rattle.table_rule.specs.DueActs.{IsTickDue, IsOpenDue, IsSourceDue, IsKeepDueWith, IsFinishDue, IsArriveDue};
 ghost use Rattle.table_rule.specs.Tasks.{most_ticks, progress_after};
 ghost use Rattle.table_rule.specs.Words.{node_at, stop_at, progress_code};
 ghost use Rattle.table_rule.specs.declared.view.Miss.{Miss};
@@ -14,6 +14,7 @@ ghost use Rattle.core_table.specs.Passes.{IsPassOf, IsMissOf, IsMomentIn, job_in
 
 use crate::table::{CoreTable, Pass};
 use core_model::{CallState, Next, Task};
+use leaf_work::WorkBrand;
 use sp_order::laws::plan_stands_for_tree;
 use table_rule::plays::{
     Arrive, Claim, ClaimOutOfRange, DrawTick, Finish, Keep, LookAtRoot, LookAtStop, LookAtValue,
@@ -60,7 +61,7 @@ fn task_after(node: u32) -> Task
     }
 }
 
-impl CoreTable {
+impl<B: WorkBrand> CoreTable<B> {
     /// What the pass does next. `None`: its task is idle, or its call is out. Memory: none.
     #[inline(always)]
     pub fn next(&self, pass: &Pass) -> Option<Next>
@@ -83,18 +84,18 @@ impl CoreTable {
             ≡ with_step (claiming node) (view pass.old) }
         ensures refused { IsFalse result → (miss : Miss)
             × ((node < (job_in self.now).plan.count → (miss.found ≢ READY)
-            × IsMissOf self.now pass.old (node_at (job_in self.now).workers node) miss)
-            × ((job_in self.now).plan.count ≤ node → IsMissOf self.now pass.old 0 miss))
+            × IsMissOf B.work self.now pass.old (node_at (job_in self.now).workers node) miss)
+            × ((job_in self.now).plan.count ≤ node → IsMissOf B.work self.now pass.old 0 miss))
             × (view pass.new ≡ with_miss miss (refusing node) (view pass.old)) }
     {
         self.laws_hold();
         let shared = &self.table.shared;
         if node >= self.nodes {
-            shared.compare_exchange::<ClaimOutOfRange>(&mut pass.seat, 0, 4 + node as u64, 0);
+            shared.compare_exchange::<ClaimOutOfRange<B>>(&mut pass.seat, 0, 4 + node as u64, 0);
             return false;
         }
         let at = self.layout().node(node);
-        if shared.compare_exchange::<Claim>(&mut pass.seat, at, READY, TAKEN) != READY {
+        if shared.compare_exchange::<Claim<B>>(&mut pass.seat, at, READY, TAKEN) != READY {
             return false;
         }
         pass.task = Task::Run(node);
@@ -157,7 +158,7 @@ impl CoreTable {
     pub fn keep(&self, pass: &mut Pass, value: u64)
         requires pass { IsPassOf self.now pass.old }
         requires free { IsNotTrapped pass.old }
-        requires due { IsKeepDue (next_in self.now (pass_view pass.old)) value }
+        requires due { IsKeepDueWith B.work (next_in self.now (pass_view pass.old)) value }
         ensures pass { IsPassOf self.now pass.new }
         ensures kept { (n : ℕ) × (start : ℕ) × ((view pass.old).own.task ≡ Started n start)
             × (view pass.new ≡ with_step (keeping n start value) (view pass.old)) }
@@ -221,12 +222,12 @@ impl CoreTable {
         ensures pass { IsPassOf self.now pass.new }
         ensures done { IsTrue result → view pass.new ≡ seeing_done (view pass.old) }
         ensures undone { IsFalse result → (miss : Miss)
-            × ((miss.found % CODES ≢ DONE) × IsMissOf self.now pass.old (node_at (job_in self.now).workers 0) miss)
+            × ((miss.found % CODES ≢ DONE) × IsMissOf B.work self.now pass.old (node_at (job_in self.now).workers 0) miss)
             × (view pass.new ≡ seeing_undone miss (view pass.old)) }
     {
         self.laws_hold();
         let at = self.layout().node(0);
-        self.table.shared.load::<LookAtRoot>(&mut pass.seat, at) % CODES == DONE
+        self.table.shared.load::<LookAtRoot<B>>(&mut pass.seat, at) % CODES == DONE
     }
 
     /// Looks at the number of published batches. A trapped pass may ask too.
@@ -244,12 +245,12 @@ impl CoreTable {
     pub fn stop(&self, pass: &mut Pass)
         requires pass { IsPassOf self.now pass.old }
         ensures pass { IsPassOf self.now pass.new }
-        ensures stopped { (moment : ℕ) × IsMomentIn self.now pass.old moment
+        ensures stopped { (moment : ℕ) × IsMomentIn B.work self.now pass.old moment
             × (view pass.new ≡ with_stop moment (view pass.old)) }
     {
         self.laws_hold();
         let at = self.layout().stop();
-        self.table.shared.store::<Stop>(&mut pass.seat, at, 1);
+        self.table.shared.store::<Stop<B>>(&mut pass.seat, at, 1);
     }
 
     /// Looks whether the stop word is 1. A trapped pass may ask too.
@@ -258,11 +259,11 @@ impl CoreTable {
         ensures pass { IsPassOf self.now pass.new }
         ensures set { IsTrue result → view pass.new ≡ with_step finding_stop (view pass.old) }
         ensures unset { IsFalse result → (miss : Miss)
-            × ((miss.found ≡ 0) × IsMissOf self.now pass.old (stop_at (job_in self.now).workers) miss)
+            × ((miss.found ≡ 0) × IsMissOf B.work self.now pass.old (stop_at (job_in self.now).workers) miss)
             × (view pass.new ≡ with_miss miss finding_none (view pass.old)) }
     {
         self.laws_hold();
         let at = self.layout().stop();
-        self.table.shared.load::<LookAtStop>(&mut pass.seat, at) == 1
+        self.table.shared.load::<LookAtStop<B>>(&mut pass.seat, at) == 1
     }
 }

@@ -4,11 +4,7 @@
 //! a law of `launch_batch`.
 ghost use denote.Builtin.{u32 as number_row};
 ghost use denote.Param.Send.{IsSend, IsSync};
-ghost use Rattle.atomic_table.specs.contracts.owned.Table.{the_row as words_row};
 ghost use Rattle.atomic_table.specs.contracts.shared.Seat.{the_row as seat_row};
-ghost use Rattle.table_rule.specs.contracts.plays.SchedulerRule.{the_row as rule_row};
-ghost use Rattle.table_rule.specs.contracts.plays.SchedulerRuleTableRuleSlotViewSetting.TheImpl.{ghosts as rule_ghosts};
-ghost use Rattle.core_model.specs.contracts.setting.Setting.{the_row as setting_row};
 ghost use Rattle.table_rule.specs.contracts.slot.Slot.{the_row as slot_row};
 ghost use Rattle.core_table.specs.contracts.table.CoreTable.{the_row as table_row};
 ghost use Rattle.core_table.specs.contracts.table.Pass.{the_row as pass_row};
@@ -20,6 +16,7 @@ ghost use Rattle.std.specs.contracts.vec.Vec.{the_row as list_row};
 use atomic_table::{Seat, Table};
 use core_model::Setting;
 use launch_batch::laws::shops_go_to_threads;
+use leaf_work::WorkBrand;
 use std::alloc::Global;
 use table_rule::plays::SchedulerRule;
 use table_rule::{Slot, View};
@@ -52,21 +49,14 @@ fn seats_are_sent()
     is_sent::<Vec<u32>>();
 }
 
-/// The fields of `CoreTable` that need a proof, the table and the setting, are `Sync`.
-fn words_are_shared()
-    ensures words { IsSync (words_row slot_row view_row setting_row rule_row heap_row rule_ghosts heap_ghosts) }
-    ensures setting { IsSync setting_row }
-{
-    slots_are_sent();
-    is_shared::<Setting>();
-    is_shared::<Table<Slot, View, Setting, SchedulerRule, Global>>();
-}
-
-/// Threads can share a `CoreTable`, and a `Pass` can be sent to its worker's thread.
-pub fn tables_go_to_threads()
-    ensures shared { IsSync table_row }
+/// Threads can share a `CoreTable`, and a `Pass` can be sent to its worker's thread. For proofs only; does nothing at run
+/// time.
+pub fn tables_go_to_threads<B: WorkBrand + Send + Sync>()
+    ensures shared { IsSync (table_row B.row B.WorkBrand) }
     ensures sent { IsSend pass_row }
 {
     seats_are_sent();
-    words_are_shared();
+    slots_are_sent();
+    is_shared::<Setting>();
+    is_shared::<Table<Slot, View, Setting, SchedulerRule<B>, Global>>();
 }

@@ -6,11 +6,12 @@ ghost use Rattle.sp_order.specs.Jobs.{job_tree};
 ghost use Rattle.sp_order.specs.TreeEncoding.{coded_tree};
 ghost use Rattle.sp_order.specs.Precedence.{leaves};
 ghost use Rattle.table_rule.specs.Words.{word_count, slot_count};
-ghost use Rattle.table_rule.specs.Shows.{job_of};
+ghost use Rattle.core_model.specs.Settings.{job_of};
 
 use atomic_table::{Seat, Table};
 use core_model::laws::book::job_has_its_sources;
 use core_model::{CallState, Setting, Task};
+use leaf_work::WorkBrand;
 use seq_objects::Act;
 use sp_order::PlannedJob;
 use std::alloc::Global;
@@ -18,10 +19,11 @@ use table_rule::laws::laws_hold;
 use table_rule::plays::SchedulerRule;
 use table_rule::{Layout, Slot, View};
 
-/// The running table: the core's state as atomic words and slots that all passes share.
+/// The running table: the core's state as atomic words and slots that all passes share. `B` says what the leaves of work
+/// compute.
 #[derive(Drop)]
-pub struct CoreTable {
-    pub(crate) table: Table<Slot, View, Setting, SchedulerRule, Global>,
+pub struct CoreTable<B: WorkBrand> {
+    pub(crate) table: Table<Slot, View, Setting, SchedulerRule<B>, Global>,
     pub(crate) setting: Setting,
     pub(crate) nodes: u32,
     ghost key: { (table.shared.key ≡ setting) × (nodes ≡ (job_of setting).plan.count) },
@@ -49,7 +51,8 @@ pub struct Pass {
     ghost room: { (MOST_WORKERS ≤ vec_capacity owed) × (vec_len owed ≡ length owed.items) },
 }
 
-impl CoreTable {
+impl<B: WorkBrand> CoreTable<B> {
+    ghost use Rattle.core_model.specs.Settings.{job_with};
     ghost use Rattle.core_model.specs.declared.setting.Setting.{Setting};
     ghost use Rattle.core_table.specs.Passes.{job_in, planned_in, setting_in};
     ghost use Rattle.table_rule.specs.Laws.{Laws};
@@ -67,7 +70,7 @@ impl CoreTable {
 
     /// The rule's laws hold of the table's job. For proofs only; does nothing at run time.
     pub(crate) fn laws_hold(&self)
-        ensures { (key : Setting) → setting_in self.now ≡ key → Laws (job_of key) }
+        ensures { (key : Setting) → setting_in self.now ≡ key → Laws (job_with B.work key) }
     {
         laws_hold();
         job_has_its_sources();

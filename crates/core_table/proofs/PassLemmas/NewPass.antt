@@ -42,7 +42,7 @@ new_pass setting table k seat low same is = (
   ap (λ (m : SeatState). m.0.workers) is,
   ap (λ (m : SeatState). m.0.nodes) is,
   ap (λ (m : SeatState). m.0.enrolled) is,
-  subst (TaskHere (job_of setting)) (sym (ap (λ (m : SeatState). m.0.own.task) is)) tt,
+  subst (TaskHere (job_of setting).plan) (sym (ap (λ (m : SeatState). m.0.own.task) is)) tt,
   ap (λ (m : SeatState). m.0.room) is,
   subst (HoldsSlots k) (sym is) (carries_new k setting),
   subst (λ (m : SeatState). TracksHold m.0 [] false) (sym is) (remembers_none (fresh k setting) [] false refl refl),

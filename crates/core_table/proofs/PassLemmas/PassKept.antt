@@ -1,7 +1,10 @@
 -- A pass still belongs to its table after each kind of call.
 use Rattle.std.proofs.Common.{ℕ, ◌≡◌, ◌≢◌, ◌≤◌, ◌+◌, Bool, true, false, Option as Maybe, None, Some, List, [], ◌∷◌, ◌++◌, get_or, refl, sym, ap, ◌∙◌, subst}
 use Rattle.std.proofs.lemmas.List.{map-append}
-use Rattle.core_model.specs.State.{core_job}
+use Rattle.core_model.specs.Measure.{call_count, total, one_if_call}
+use Rattle.core_model.specs.Settings.{job_with}
+use Rattle.core_model.specs.State.{CoreJob, core_job}
+use Rattle.core_model.specs.Words.{Kind, LeafNode, ParNode, SeqNode}
 use Rattle.atomic_table.specs.Table.{turned, rest}
 use Rattle.atomic_table.specs.Seated.{TableId}
 use Rattle.atomic_table.specs.declared.shared.Seat.{Seat}
@@ -13,7 +16,7 @@ use Rattle.table_rule.specs.declared.view.HoldView.{HoldView}
 use Rattle.table_rule.specs.declared.slot.Slot.{Slot}
 use Rattle.table_rule.specs.declared.slot.Slot.TheVariants as Slots
 use Rattle.core_model.specs.declared.setting.Setting.{Setting}
-use Rattle.table_rule.specs.Shows.{reserved, job_of}
+use Rattle.table_rule.specs.Shows.{reserved, job_of, room_of}
 use Rattle.batch_history.specs.Reserved.{ReservedView}
 use Rattle.table_rule.specs.declared.slot.OpRecord.{OpRecord}
 use Rattle.batch_history.specs.declared.batch.Entry.{Entry}
@@ -25,7 +28,7 @@ use Rattle.table_rule.specs.HoldsSlots.{vacant, HolderCarries, HoldsSlots}
 use Rattle.table_rule.specs.TracksHold.{TracksHold}
 use Rattle.core_table.proofs.ListLemmas.Owed.{remembers_kept}
 use Rattle.core_table.specs.Passes.{IsSeatOf, LooksFit}
-use Rattle.table_rule.specs.Tasks.{TaskHere, job_seen}
+use Rattle.table_rule.specs.Tasks.{TaskHere, job_seen, job_seen_with}
 use Rattle.std.proofs.lemmas.Option.{same_Some}
 
 holder_kept : (b : Bool) (v w : View) (h : HoldView) (xs : List (ℕ × Slot)) → w.workers ≡ v.workers → w.room ≡ v.room → HolderCarries b v h xs → HolderCarries b w h xs
@@ -42,9 +45,22 @@ carries_kept k v w xs workers room call hold m = record {
 same_job : (v w : View) → w.job ≡ v.job → w.workers ≡ v.workers → job_seen w ≡ job_seen v
 same_job v w given workers = λ i. core_job (given i) (workers i)
 
+-- what a view knows of its job and its room does not depend on what the leaves of work compute
+pub known_with : (work : ℕ → ℕ) (v : View) (setting : Setting) → job_seen v ≡ job_of setting → job_seen_with work v ≡ job_with work setting
+known_with work v setting known = ap (λ (job : CoreJob). record job { work = work }) known
+
+same_if_call : (work : ℕ → ℕ) (setting : Setting) (kind : Maybe Kind) → one_if_call (job_of setting) kind ≡ one_if_call (job_with work setting) kind
+same_if_call work setting None = refl
+same_if_call work setting (Some (LeafNode leaf)) = refl
+same_if_call work setting (Some (SeqNode left right)) = refl
+same_if_call work setting (Some (ParNode left right)) = refl
+
+pub room_with : (work : ℕ → ℕ) (setting : Setting) → room_of setting ≡ call_count (job_with work setting)
+room_with work setting = λ i. total (λ n. same_if_call work setting ((job_of setting).plan.kind n) i) (job_of setting).plan.count
+
 -- a pass after a step that leaves its call, its hold and its slots
 pub pass_stepped : {owed : List ℕ} {published : Bool} (setting : Setting) (table : TableId) (k : ℕ) (old new : Seat Slot View) (w : View) → new.table_id ≡ old.table_id → new.me ≡ (w, old.me.1)
-    → w.workers ≡ old.me.0.workers → w.nodes ≡ old.me.0.nodes → w.room ≡ old.me.0.room → w.enrolled ≡ old.me.0.enrolled → TaskHere (job_of setting) w.own.task → w.own.call ≡ old.me.0.own.call → w.own.hold ≡ old.me.0.own.hold → w.job ≡ old.me.0.job
+    → w.workers ≡ old.me.0.workers → w.nodes ≡ old.me.0.nodes → w.room ≡ old.me.0.room → w.enrolled ≡ old.me.0.enrolled → TaskHere (job_of setting).plan w.own.task → w.own.call ≡ old.me.0.own.call → w.own.hold ≡ old.me.0.own.hold → w.job ≡ old.me.0.job
     → IsSeatOf setting table k old owed published → IsSeatOf setting table k new owed published
 pass_stepped {owed} {published} setting table k old new w same is workers nodes room enrolled task call hold given p = (
   same ∙ p.0,
@@ -52,7 +68,7 @@ pass_stepped {owed} {published} setting table k old new w same is workers nodes 
   ap (λ (m : SeatState). m.0.workers) is ∙ (workers ∙ p.2),
   ap (λ (m : SeatState). m.0.nodes) is ∙ (nodes ∙ p.3),
   ap (λ (m : SeatState). m.0.enrolled) is ∙ (enrolled ∙ p.4),
-  subst (TaskHere (job_of setting)) (sym (ap (λ (m : SeatState). m.0.own.task) is)) task,
+  subst (TaskHere (job_of setting).plan) (sym (ap (λ (m : SeatState). m.0.own.task) is)) task,
   ap (λ (m : SeatState). m.0.room) is ∙ (room ∙ p.6),
   subst (HoldsSlots k) (sym is) (carries_kept k old.me.0 w old.me.1 workers room call hold p.7),
   remembers_kept old.me.0 new.me.0 owed published (ap (λ (m : SeatState). m.0.own.hold) is ∙ hold) p.8,
@@ -65,7 +81,7 @@ pub pass_kept : {owed : List ℕ} {published : Bool} (setting : Setting) (table 
     → w.workers ≡ old.me.0.workers → w.nodes ≡ old.me.0.nodes → w.room ≡ old.me.0.room → w.enrolled ≡ old.me.0.enrolled → w.own.task ≡ old.me.0.own.task → w.own.call ≡ old.me.0.own.call → w.own.hold ≡ old.me.0.own.hold → w.job ≡ old.me.0.job
     → IsSeatOf setting table k old owed published → IsSeatOf setting table k new owed published
 pass_kept setting table k old new w same is workers nodes room enrolled task call hold given p =
-    pass_stepped setting table k old new w same is workers nodes room enrolled (subst (TaskHere (job_of setting)) (sym task) p.5) call hold given p
+    pass_stepped setting table k old new w same is workers nodes room enrolled (subst (TaskHere (job_of setting).plan) (sym task) p.5) call hold given p
 
 -- a pass after a step of a call or a hold, from its new view and slots
 pub pass_made : {owed owed' : List ℕ} {published published' : Bool} (setting : Setting) (table : TableId) (k : ℕ) (old new : Seat Slot View) (w : View) (xs : List (ℕ × Slot)) → new.table_id ≡ old.table_id → new.me ≡ (w, xs)
@@ -77,7 +93,7 @@ pass_made {owed} {owed'} {published} {published'} setting table k old new w xs s
   ap (λ (m : SeatState). m.0.workers) is ∙ (workers ∙ p.2),
   ap (λ (m : SeatState). m.0.nodes) is ∙ (nodes ∙ p.3),
   ap (λ (m : SeatState). m.0.enrolled) is ∙ (enrolled ∙ p.4),
-  subst (TaskHere (job_of setting)) (sym (ap (λ (m : SeatState). m.0.own.task) is ∙ task)) p.5,
+  subst (TaskHere (job_of setting).plan) (sym (ap (λ (m : SeatState). m.0.own.task) is ∙ task)) p.5,
   ap (λ (m : SeatState). m.0.room) is ∙ (room ∙ p.6),
   subst (HoldsSlots k) (sym is) carries,
   subst (λ (m : SeatState). TracksHold m.0 owed' published') (sym is) remembers,

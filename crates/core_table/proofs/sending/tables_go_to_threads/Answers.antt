@@ -3,11 +3,12 @@ use denote.Param.Send.{sendable}
 use denote.Param.SendFields.{declared_send, declared_sync}
 use Rattle.core_table.specs.contracts.table.CoreTable as table
 use Rattle.core_table.specs.contracts.table.Pass as pass
+use Rattle.core_table.specs.contracts.sending.tables_go_to_threads as here
 use Rattle.core_table.proofs.sending.tables_go_to_threads.Goals as goal
 
 pub returns-clause-shared : goal.returns-clause-shared
-returns-clause-shared c = declared_sync table.the_type (c.words_are_shared.ensures.words, (c.words_are_shared.ensures.setting, (search sendable, tt)))
+returns-clause-shared g c = declared_sync (table.the_type (here.B-row g.row.B) g.B.WorkBrand) (c.is_shared-2.ensures, (c.is_shared.ensures, (search sendable, tt)))
 
 pub returns-clause-sent : goal.returns-clause-sent
-returns-clause-sent c = declared_send pass.the_type
+returns-clause-sent g c = declared_send pass.the_type
     (c.seats_are_sent.ensures.seat, (search sendable depth 20, (search sendable depth 20, (search sendable depth 20, (c.seats_are_sent.ensures.owed, (search sendable depth 20, tt))))))

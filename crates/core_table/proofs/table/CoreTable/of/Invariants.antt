@@ -6,7 +6,7 @@ use Rattle.table_rule.specs.Views.{rest_from}
 use Rattle.core_table.proofs.table.CoreTable.of.Given as goal
 
 abbrev pub invariant-loop-worker : goal.invariant-loop-worker
-invariant-loop-worker l = record {
+invariant-loop-worker g l = record {
   key : l.table.shared.key ≡ l.setting;
   words : l.table.shared.table_id.words ≡ word_count l.setting.workers l.nodes;
   slots : l.table.shared.table_id.slots ≡ slot_count l.setting.workers;

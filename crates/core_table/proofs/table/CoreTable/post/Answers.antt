@@ -1,6 +1,7 @@
+use Rattle.core_model.specs.Settings.{job_with}
 use Rattle.std.proofs.Common.{[], sym, ap, ◌∙◌, arith, refl}
 use Rattle.table_rule.specs.declared.slot.Slot.TheVariants as Slots
-use Rattle.table_rule.specs.Shows.{room_of, job_of}
+use Rattle.table_rule.specs.Shows.{room_of}
 use Rattle.core_table.proofs.PassLemmas.PassKept.{pass_made, first, swapped}
 use Rattle.table_rule.proofs.StepLemmas.NextActs.{may_post}
 use Rattle.table_rule.proofs.StepLemmas.CallSteps.{posts_at}
@@ -13,8 +14,8 @@ use Rattle.core_table.proofs.PassLemmas.PassKept.{pass_made, first, carries_post
 use Rattle.core_table.proofs.table.CoreTable.post.Goals as goal
 
 pub store-requires : goal.store-requires
-store-requires c =
-    let self = c.args.self.now in let pass = c.args.pass.now in let job = job_of self.setting in let v = pass.seat.me.0 in
+store-requires g c =
+    let self = c.args.self.now in let pass = c.args.pass.now in let job = job_with g.B.WorkBrand.work self.setting in let v = pass.seat.me.0 in
     let laws = c.laws_hold.ensures self.setting refl in
     let may = may_post job laws v.own.call v.own.told v.own.task c.args.call c.requires.pass.5 c.requires.due in
     let own = c.requires.pass.7.free (λ e. let f = sym may.0 ∙ e in absurd (cc)) in (
@@ -25,8 +26,8 @@ store-requires c =
     )
 
 pub invariant_of-pass : goal.invariant_of-pass
-invariant_of-pass c =
-    let self = c.args.self.now in let pass = c.args.pass.now in let job = job_of self.setting in let v = pass.seat.me.0 in
+invariant_of-pass g c =
+    let self = c.args.self.now in let pass = c.args.pass.now in let job = job_with g.B.WorkBrand.work self.setting in let v = pass.seat.me.0 in
     let laws = c.laws_hold.ensures self.setting refl in
     let may = may_post job laws v.own.call v.own.told v.own.task c.args.call c.requires.pass.5 c.requires.due in
     let own = c.requires.pass.7.free (λ e. let f = sym may.0 ∙ e in absurd (cc)) in
@@ -39,8 +40,8 @@ invariant_of-pass c =
     }
 
 pub returns : goal.returns
-returns c =
-    let self = c.args.self.now in let pass = c.args.pass.now in let job = job_of self.setting in let old = pass.seat in let v = old.me.0 in
+returns g c =
+    let self = c.args.self.now in let pass = c.args.pass.now in let job = job_with g.B.WorkBrand.work self.setting in let old = pass.seat in let v = old.me.0 in
     let laws = c.laws_hold.ensures self.setting refl in
     let may = may_post job laws v.own.call v.own.told v.own.task c.args.call c.requires.pass.5 c.requires.due in
     let own = c.requires.pass.7.free (λ e. let f = sym may.0 ∙ e in absurd (cc)) in

@@ -1,42 +1,44 @@
+use Rattle.core_model.specs.Settings.{job_with}
 use Rattle.std.proofs.Common.{◌≡◌, ℕ, [], ◌∷◌, true, sym, ap, ◌∙◌, arith, refl}
 use Rattle.atomic_table.specs.Table.{rest}
 use Rattle.table_rule.specs.declared.slot.Slot.TheVariants as Slots
 use Rattle.table_rule.specs.Plays.{SeatState}
-use Rattle.table_rule.specs.Shows.{room_of, job_of}
+use Rattle.table_rule.specs.Shows.{room_of}
 use Rattle.table_rule.specs.Passes.{releasing}
 use Rattle.table_rule.specs.Views.{with_step}
 use Rattle.table_rule.specs.Words.{flag_at}
 use Rattle.core_table.proofs.ListLemmas.Owed.{owes_nobody, remembers_none}
 use Rattle.core_table.proofs.PassLemmas.PassKept.{held_out, pass_made, first, swapped, holder_after, carries_released}
 use Rattle.table_rule.proofs.StepLemmas.CallSteps.{releases_shop_at}
+use Rattle.core_table.proofs.table.CoreTable.release_shop.Given.{Over}
 use Rattle.core_table.proofs.table.CoreTable.release_shop.Goals.{After-shop_slot-home, After-exchange}
 use Rattle.core_table.proofs.table.CoreTable.release_shop.Goals as goal
 
-owed_to_none : (c : After-shop_slot-home) → c.requires.due.0.owed ≡ []
-owed_to_none c = owes_nobody c.requires.due.0 (c.requires.pass.8.holds c.requires.due.0 c.requires.due.1).2 c.requires.due.2.answered
+owed_to_none : (g : Over) (c : After-shop_slot-home g) → c.requires.due.0.owed ≡ []
+owed_to_none g c = owes_nobody c.requires.due.0 (c.requires.pass.8.holds c.requires.due.0 c.requires.due.1).2 c.requires.due.2.answered
 
-published : (c : After-shop_slot-home) → c.requires.due.0.published ≡ true
-published c = sym (c.requires.pass.8.holds c.requires.due.0 c.requires.due.1).1 ∙ c.requires.published
+published : (g : Over) (c : After-shop_slot-home g) → c.requires.due.0.published ≡ true
+published g c = sym (c.requires.pass.8.holds c.requires.due.0 c.requires.due.1).1 ∙ c.requires.published
 
 -- the slot of the shop is the one that the holder has in hand
-in_hand : (c : After-shop_slot-home) → c.args.pass.now.seat.me ≡ (c.args.pass.now.seat.me.0, (c.shop_slot-home.result, Slots.Vacant) ∷ [])
-in_hand c =
+in_hand : (g : Over) (c : After-shop_slot-home g) → c.args.pass.now.seat.me ≡ (c.args.pass.now.seat.me.0, (c.shop_slot-home.result, Slots.Vacant) ∷ [])
+in_hand g c =
     let pass = c.args.pass.now in let me = pass.seat.me in
-    holder_after pass.worker c.args.self.now.setting.workers me c.requires.due.0 [] c.requires.due.1 (published c) (owed_to_none c) c.requires.pass.2 c.requires.pass.7
+    holder_after pass.worker c.args.self.now.setting.workers me c.requires.due.0 [] c.requires.due.1 (published g c) (owed_to_none g c) c.requires.pass.2 c.requires.pass.7
     ∙ ap (λ (i : ℕ). (me.0, (i, Slots.Vacant) ∷ [])) (sym (c.shop_slot-home.ensures ∙ c.layout-layout.ensures.workers))
 
 -- the seat once the shop lies there
-put : (c : After-exchange) → c.args.pass.now.seat.me ≡ (c.args.pass.now.seat.me.0, (c.shop_slot-home.result, Slots.Vacant) ∷ []) → c.exchange.new.seat.me ≡ (c.args.pass.now.seat.me.0, (c.shop_slot-home.result, Slots.Shop c.args.shop) ∷ [])
-put c is = swapped c.args.pass.now.seat.me c.exchange.new.seat.me c.args.pass.now.seat.me.0 c.shop_slot-home.result Slots.Vacant (Slots.Shop c.args.shop) [] is c.exchange.ensures.3
+put : (g : Over) (c : After-exchange g) → c.args.pass.now.seat.me ≡ (c.args.pass.now.seat.me.0, (c.shop_slot-home.result, Slots.Vacant) ∷ []) → c.exchange.new.seat.me ≡ (c.args.pass.now.seat.me.0, (c.shop_slot-home.result, Slots.Shop c.args.shop) ∷ [])
+put g c is = swapped c.args.pass.now.seat.me c.exchange.new.seat.me c.args.pass.now.seat.me.0 c.shop_slot-home.result Slots.Vacant (Slots.Shop c.args.shop) [] is c.exchange.ensures.3
 
 pub exchange-requires : goal.exchange-requires
-exchange-requires c =
-    let at = (goal.at.exchange-requires c).After-shop_slot-home in
-    (c.requires.pass.0, (Slots.Vacant, first c.args.pass.now.seat.me c.args.pass.now.seat.me.0 c.shop_slot-home.result Slots.Vacant [] (in_hand at)))
+exchange-requires g c =
+    let at = (goal.at.exchange-requires g c).After-shop_slot-home in
+    (c.requires.pass.0, (Slots.Vacant, first c.args.pass.now.seat.me c.args.pass.now.seat.me.0 c.shop_slot-home.result Slots.Vacant [] (in_hand g at)))
 
 pub store-requires : goal.store-requires
-store-requires c =
-    let at = goal.at.store-requires c in
+store-requires g c =
+    let at = goal.at.store-requires g c in
     let self = c.args.self.now in let pass = c.args.pass.now in let v = pass.seat.me.0 in
     let h = c.requires.due.0 in let due = c.requires.due.2 in
     let word = c.flag-at.ensures ∙ ap flag_at c.layout-layout.ensures.workers in
@@ -44,17 +46,17 @@ store-requires c =
     let laws = c.laws_hold.ensures self.setting refl in (
       c.exchange.ensures.0 ∙ c.requires.pass.0,
       omega (arith, self.sized.0, word),
-      rw (self.key.0, word) (λ a b d e f. let x = (releases_shop_at (job_of self.setting) (room_of self.setting) laws _ _ v [] pass.worker pass.number.0 pass.number.1 _ h c.args.shop (put at.After-exchange (in_hand at.After-shop_slot-home) ∙ ap (λ (i : ℕ). (v, (i, Slots.Shop c.args.shop) ∷ [])) place) c.requires.due.1 due.looked (published at.After-shop_slot-home) due.answered c.requires.due.3) a b d e f in (x.0, x.1, x.2, x.3.0, x.4)),
+      rw (self.key.0, word) (λ a b d e f. let x = (releases_shop_at (job_with g.B.WorkBrand.work self.setting) (room_of self.setting) laws _ _ v [] pass.worker pass.number.0 pass.number.1 _ h c.args.shop (put g at.After-exchange (in_hand g at.After-shop_slot-home) ∙ ap (λ (i : ℕ). (v, (i, Slots.Shop c.args.shop) ∷ [])) place) c.requires.due.1 due.looked (published g at.After-shop_slot-home) due.answered c.requires.due.3) a b d e f in (x.0, x.1, x.2, x.3.0, x.4)),
     )
 
 pub returns : goal.returns
-returns c =
-    let at = goal.at.returns c in
+returns g c =
+    let at = goal.at.returns g c in
     let self = c.args.self.now in let pass = c.args.pass.now in let old = pass.seat in let v = old.me.0 in
     let h = c.requires.due.0 in let holds = c.requires.due.1 in
-    let last = c.store.ensures.2 ∙ ap (λ (m : SeatState). (with_step releasing m.0, rest m.1)) (put at.After-exchange (in_hand at.After-shop_slot-home)) in
+    let last = c.store.ensures.2 ∙ ap (λ (m : SeatState). (with_step releasing m.0, rest m.1)) (put g at.After-exchange (in_hand g at.After-shop_slot-home)) in
     record {
       pass = pass_made self.setting _ pass.worker old c.store.new.seat (with_step releasing v) [] (c.store.ensures.0 ∙ c.exchange.ensures.0) last refl refl refl refl refl refl
-          (carries_released pass.worker v (held_out pass.worker old.me h c.requires.pass.7 holds)) (remembers_none (with_step releasing v) _ _ refl ((c.requires.pass.8.holds h holds).0 ∙ owed_to_none at.After-shop_slot-home)) tt c.requires.pass;
+          (carries_released pass.worker v (held_out pass.worker old.me h c.requires.pass.7 holds)) (remembers_none (with_step releasing v) _ _ refl ((c.requires.pass.8.holds h holds).0 ∙ owed_to_none g at.After-shop_slot-home)) tt c.requires.pass;
       released = ap (λ (m : SeatState). m.0) last;
     }

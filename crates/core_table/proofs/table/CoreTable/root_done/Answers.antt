@@ -1,10 +1,11 @@
+use Rattle.core_model.specs.Settings.{job_with}
 use Rattle.std.proofs.Common.{arith, refl}
-use Rattle.table_rule.specs.Shows.{room_of, job_of}
+use Rattle.table_rule.specs.Shows.{room_of}
 use Rattle.table_rule.proofs.StepLemmas.LookSteps.{looks_at_root}
 use Rattle.std.proofs.Common.{refl, ◌%◌, inl, inr}
 use Rattle.std.proofs.lemmas.Bool.{cases_eq}
 use Rattle.table_rule.specs.Views.{seeing_done, seeing_undone}
-use Rattle.core_table.proofs.PassLemmas.PassKept.{pass_kept}
+use Rattle.core_table.proofs.PassLemmas.PassKept.{known_with, pass_kept}
 use Rattle.std.proofs.Common.{ℕ, sym, ap, ◌∙◌}
 use Rattle.table_rule.specs.Plays.{SeatState}
 use Rattle.table_rule.specs.Words.{node_at}
@@ -12,25 +13,25 @@ use Rattle.core_table.proofs.PassLemmas.Refused.{not_equal, miss_told}
 use Rattle.core_table.proofs.table.CoreTable.root_done.Goals as goal
 
 pub load-requires : goal.load-requires
-load-requires c =
-    let self = c.args.self.now in let pass = c.args.pass.now in let job = job_of self.setting in let v = pass.seat.me.0 in
+load-requires g c =
+    let self = c.args.self.now in let pass = c.args.pass.now in let job = job_with g.B.WorkBrand.work self.setting in let v = pass.seat.me.0 in
     let laws = c.laws_hold.ensures self.setting refl in (
       c.requires.pass.0,
       omega (arith, self.sized.0, c.node-at.ensures, c.layout.ensures.workers, self.few.3),
-      rw (self.key.0, c.node-at.ensures, c.layout.ensures.workers) (λ a b d e f. let x = (looks_at_root job (room_of self.setting) laws _ _ v pass.seat.me.1 pass.worker pass.number.0 pass.number.1 _ c.requires.pass.2 (omega arith) (omega (arith, self.few.3, self.key.1)) c.requires.pass.9 c.requires.pass.6) a b d e f in (x.0, x.1, x.2, x.3.0, x.4)),
+      rw (self.key.0, c.node-at.ensures, c.layout.ensures.workers) (λ a b d e f. let x = (looks_at_root job (room_of self.setting) laws _ _ v pass.seat.me.1 pass.worker pass.number.0 pass.number.1 _ c.requires.pass.2 (omega arith) (omega (arith, self.few.3, self.key.1)) (known_with g.B.WorkBrand.work c.args.pass.now.seat.me.0 c.args.self.now.setting c.requires.pass.9) c.requires.pass.6) a b d e f in (x.0, x.1, x.2, x.3.0, x.4)),
     )
 
 pub returns-clause-pass : goal.returns-clause-pass
-returns-clause-pass c =
+returns-clause-pass g c =
     let old = c.args.pass.now.seat in elim (cases_eq (c.load.result % 4) 3) [
       | inl e ↦ pass_kept c.args.self.now.setting _ c.args.pass.now.worker old c.load.new.seat (seeing_done old.me.0) c.load.ensures.0 (c.load.ensures.2.0 e) refl refl refl refl refl refl refl refl c.requires.pass
       | inr ne ↦ let t = c.load.ensures.2.1 ne in pass_kept c.args.self.now.setting _ c.args.pass.now.worker old c.load.new.seat (seeing_undone t.0 old.me.0) c.load.ensures.0 t.3 refl refl refl refl refl refl refl refl c.requires.pass
     ]
 
 pub returns-clause-undone : goal.returns-clause-undone
-returns-clause-undone c denied =
+returns-clause-undone g c denied =
     let ne = not_equal (c.load.result % 4) 3 denied in let t = c.load.ensures.2.1 ne in (
       t.0,
-      ((λ e. ne (ap (λ (y : ℕ). y % 4) (sym t.2) ∙ e)), miss_told c.args.self.now c.args.pass.now _ _ t.0 c.requires.pass (c.node-at.ensures ∙ ap (λ (w : ℕ). node_at w 0) c.layout.ensures.workers) t.1),
+      ((λ e. ne (ap (λ (y : ℕ). y % 4) (sym t.2) ∙ e)), miss_told g.B.WorkBrand.work c.args.self.now c.args.pass.now _ _ t.0 c.requires.pass (c.node-at.ensures ∙ ap (λ (w : ℕ). node_at w 0) c.layout.ensures.workers) t.1),
       ap (λ (m : SeatState). m.0) t.3,
     )

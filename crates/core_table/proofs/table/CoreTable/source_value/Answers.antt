@@ -1,7 +1,8 @@
+use Rattle.core_model.specs.Settings.{job_with}
 use Rattle.std.proofs.Common.{refl, arith}
 use Rattle.table_rule.specs.Passes.{telling}
 use Rattle.table_rule.specs.Views.{with_step}
-use Rattle.table_rule.specs.Shows.{room_of, job_of}
+use Rattle.table_rule.specs.Shows.{room_of}
 use Rattle.sp_order.specs.declared.node.Kind.TheVariants.{LeafNode}
 use Rattle.core_model.proofs.BookLemmas.CallsIn.{call_within}
 use Rattle.table_rule.proofs.StepLemmas.Sides.{block_in}
@@ -10,7 +11,7 @@ use Rattle.core_table.proofs.PassLemmas.PassKept.{pass_kept}
 use Rattle.core_table.proofs.table.CoreTable.source_value.Goals as goal
 
 pub node_of-requires : goal.node_of-requires
-node_of-requires c =
+node_of-requires g c =
     let self = c.args.self.now in
     let laws = c.laws_hold.ensures self.setting refl in
     let (n, start, leaf, task, kind, from) = c.source_due-source.ensures in
@@ -18,8 +19,8 @@ node_of-requires c =
     omega (arith, within, self.acts.0)
 
 pub load-requires : goal.load-requires
-load-requires c =
-    let self = c.args.self.now in let pass = c.args.pass.now in let job = job_of self.setting in let v = pass.seat.me.0 in
+load-requires g c =
+    let self = c.args.self.now in let pass = c.args.pass.now in let job = job_with g.B.WorkBrand.work self.setting in let v = pass.seat.me.0 in
     let laws = c.laws_hold.ensures self.setting refl in
     let (n, start, leaf, task, kind, from) = c.source_due-source.ensures in
     let at = laws.sources n leaf c.source_due-source.result kind from in
@@ -31,6 +32,6 @@ load-requires c =
     )
 
 pub returns-clause-pass : goal.returns-clause-pass
-returns-clause-pass c =
+returns-clause-pass g c =
     let old = c.args.pass.now.seat in
     pass_kept c.args.self.now.setting _ c.args.pass.now.worker old c.load.new.seat (with_step (telling c.load.result) old.me.0) c.load.ensures.0 c.load.ensures.2.2 refl refl refl refl refl refl refl refl c.requires.pass

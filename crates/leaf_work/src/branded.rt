@@ -8,6 +8,7 @@ use std::marker::PhantomData;
 
 /// Work that is borrowed, and computes what `B` says. So a worker's thread, which is told of its job by types alone,
 /// knows what the leaves compute.
+#[derive(Drop)]
 pub struct BrandedWork<'a, B: WorkBrand, W: LeafWork> {
     work: &'a W,
     of: PhantomData<B>,

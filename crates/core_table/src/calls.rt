@@ -130,7 +130,12 @@ impl<B: WorkBrand> CoreTable<B> {
     {
         self.laws_hold();
         let shared = &self.table.shared;
-        let seen = shared.compare_exchange::<Take<B>>(&mut pass.seat, u as usize, PENDING, EXECUTING);
+        let seen = shared.compare_exchange::<Take<B>>(
+            &mut pass.seat,
+            u as usize,
+            PENDING,
+            EXECUTING,
+        );
         if seen != PENDING {
             return None;
         }

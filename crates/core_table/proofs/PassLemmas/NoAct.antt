@@ -65,7 +65,7 @@ whole_none job laws n (OpenSecond p) after none = let second = laws.second n p a
 whole_none job laws n (FinishParent p) after none = let parent = laws.parent n p after in let some = ap (λ kind. act_of_parent kind p) parent.1 in absurd (cc)
 whole_none job laws n (Arrive p) after none = let sides = laws.arrive n p after in let some = ap (λ kind. act_of_arrive kind p n) sides.2 in absurd (cc)
 
-pub idle_by : (job : CoreJob) (tree : Tree) (laws : Laws job) (task : Task) (call : CallState) → IsPlanOf job.plan tree → TaskHere job task → call ≢ Out → next_act job task call ≡ None → task ≡ Idle
+pub idle_by : (job : CoreJob) (tree : Tree) (laws : Laws job) (task : Task) (call : CallState) → IsPlanOf job.plan tree → TaskHere job.plan task → call ≢ Out → next_act job task call ≡ None → task ≡ Idle
 idle_by job tree laws Idle call is here free none = refl
 idle_by job tree laws (Run n) call is here free none = absurd (node_is job.plan tree is n here (run_none (job.plan.kind n) n none))
 idle_by job tree laws (Half p) call is here free none = absurd (half_some (job.plan.kind p) p here.1 none)

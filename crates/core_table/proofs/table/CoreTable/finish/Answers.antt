@@ -20,7 +20,7 @@ done_word-word-requires-clause-worker g c = let few = c.args.self.now.few.1 in o
 
 pub done_word-word-requires-clause-ticks : goal.done_word-word-requires-clause-ticks
 done_word-word-requires-clause-ticks g c n start end is =
-    let here = subst (TaskHere (job_with g.B.WorkBrand.work c.args.self.now.setting)) (c.args.pass.now.own.0 ∙ is) c.requires.pass.5 in (here.1, here.2)
+    let here = subst (TaskHere (job_with g.B.WorkBrand.work c.args.self.now.setting).plan) (c.args.pass.now.own.0 ∙ is) c.requires.pass.5 in (here.1, here.2)
 
 pub store-requires : goal.store-requires
 store-requires g c =

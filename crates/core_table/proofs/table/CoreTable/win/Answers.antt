@@ -58,7 +58,7 @@ returns-clause-pass g c =
     let out : old.me.0.own.call ≡ Out = c.requires.trapped in
     let nothing : old.me.1 ≡ [] = c.requires.pass.7.trapped out t.0 in
     let behind = book_at old.me.0.workers in
-    let held = won (goal.at.returns-clause-pass g c).After-shop_slot-home ∙ ap (λ l. (w, (home, Slots.Shop t.1) ∷ (behind, Slots.Book book) ∷ l)) nothing in
+    let held = won g (goal.at.returns-clause-pass g c).After-shop_slot-home ∙ ap (λ l. (w, (home, Slots.Shop t.1) ∷ (behind, Slots.Book book) ∷ l)) nothing in
     let emptied = swapped _ _ w home (Slots.Shop t.1) Slots.Vacant ((behind, Slots.Book book) ∷ []) held c.exchange-slot.ensures.3 in
     let last = turned_to _ c.turn.new.self.me w ((home, Slots.Vacant) ∷ (behind, Slots.Book book) ∷ []) emptied c.turn.ensures.2
     ∙ (ap (λ (i : ℕ). (w, (book_at i, Slots.Book book) ∷ (home, Slots.Vacant) ∷ [])) c.requires.pass.2 ∙ ap (λ (i : ℕ). (w, (workers + 1, Slots.Book book) ∷ (i, Slots.Vacant) ∷ [])) place) in

@@ -7,7 +7,8 @@ use Rattle.core_table.specs.contracts.sending.tables_go_to_threads as here
 use Rattle.core_table.proofs.sending.tables_go_to_threads.Goals as goal
 
 pub returns-clause-shared : goal.returns-clause-shared
-returns-clause-shared g c = declared_sync (table.the_type (here.B-row g.row.B) g.B.WorkBrand) (c.is_shared-2.ensures, (c.is_shared.ensures, (search sendable, tt)))
+returns-clause-shared g c = declared_sync (table.the_type (here.B-row g.row.B) g.B.WorkBrand)
+    (search sendable depth 20, (search sendable depth 20, (search sendable depth 20, tt)))
 
 pub returns-clause-sent : goal.returns-clause-sent
 returns-clause-sent g c = declared_send pass.the_type

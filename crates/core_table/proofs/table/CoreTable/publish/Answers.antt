@@ -1,5 +1,5 @@
 use Rattle.core_model.specs.Settings.{job_with}
-use Rattle.std.proofs.Common.{true, ◌≡◌, ℕ, List, ◌<◌, ◌+◌, [], ◌∷◌, ◌++◌, length, subst, sym, ap, ◌∙◌, arith, refl}
+use Rattle.std.proofs.Common.{true, ◌≡◌, ℕ, List, ◌<◌, [], ◌∷◌, ◌++◌, length, subst, sym, ap, ◌∙◌, arith, refl}
 use Rattle.atomic_table.specs.Table.{rest}
 use Rattle.batch_history.specs.Reserved.{ReservedView}
 use Rattle.batch_history.specs.Book.{IsHistory}

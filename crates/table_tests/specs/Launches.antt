@@ -17,7 +17,7 @@ pub record HasTaken (n : ℕ) (calls : List Call) (h : HoldView) : Type 0 where
   pub none : h.answered ≡ []
 
 -- the pass has the flag, which it won with this book
-pub record HasFlag (table : CoreTable) (before : List (List Entry)) (n : ℕ) (calls : List Call) (pass : Pass) : Type 0 where
+pub record HasFlag {B : Type 0} (table : CoreTable B) (before : List (List Entry)) (n : ℕ) (calls : List Call) (pass : Pass) : Type 0 where
   pub own : IsPassOf table pass
   pub h : HoldView
   pub hold : (pass_view pass).hold ≡ Some h
@@ -30,7 +30,7 @@ pub record HasAnswered (size : ℕ) (before : List (List Entry)) (batch : List E
   pub published : IsPublished before batch h
   pub answered : h.answered ≡ take n (workers_in batch)
 
-pub record Answers (table : CoreTable) (before : List (List Entry)) (batch : List Entry) (n : ℕ) (pass : Pass) : Type 0 where
+pub record Answers {B : Type 0} (table : CoreTable B) (before : List (List Entry)) (batch : List Entry) (n : ℕ) (pass : Pass) : Type 0 where
   pub own : IsPassOf table pass
   pub h : HoldView
   pub hold : (pass_view pass).hold ≡ Some h

@@ -11,6 +11,7 @@ use batch_history::{Batch, Entry};
 use core_model::Receipt;
 use core_table::{CoreTable, Pass};
 use launch_batch::{PieceIn, PieceOut, Shop, run_piece};
+use leaf_work::Spin;
 use seq_objects::Call;
 use std::alloc::{AllocError, Global};
 
@@ -44,7 +45,7 @@ fn serve_calls(alloc: Global, shop: Shop, calls: Vec<Call>) -> Result<(Shop, Bat
 
 /// Looks at worker u, and answers whether its call is pending. Then it is taken, and joins the calls.
 fn look(
-    table: &CoreTable,
+    table: &CoreTable<Spin>,
     pass: &mut Pass,
     shop: &Shop,
     u: u32,
@@ -74,7 +75,7 @@ fn look(
 /// some, and exactly these are found pending.
 pub(crate) fn win_finding(
     alloc: Global,
-    table: &CoreTable,
+    table: &CoreTable<Spin>,
     pass: &mut Pass,
     pending: (bool, bool),
 ) -> Result<Option<(Shop, Vec<Call>)>, AllocError>
@@ -99,7 +100,7 @@ pub(crate) fn win_finding(
 }
 
 /// Answers the entries of the batch that the shop has served last, in its order.
-fn answer_all(table: &CoreTable, pass: &mut Pass, shop: &Shop, batch: &[Entry], number: u32)
+fn answer_all(table: &CoreTable<Spin>, pass: &mut Pass, shop: &Shop, batch: &[Entry], number: u32)
     requires published { (before : List (List EntryOf)) × (before ++ batch.now ∷ [] ≡ shop.now)
         × (length before ≡ number) × Answers table.now before batch.now 0 pass.old }
     ensures answered { (before : List (List EntryOf)) × (before ++ batch.now ∷ [] ≡ shop.now)
@@ -120,7 +121,7 @@ fn answer_all(table: &CoreTable, pass: &mut Pass, shop: &Shop, batch: &[Entry], 
 /// Serves the calls that were taken as one batch, publishes it, answers them, and lets go of the flag.
 pub(crate) fn end_launch(
     alloc: Global,
-    table: &CoreTable,
+    table: &CoreTable<Spin>,
     pass: &mut Pass,
     shop: Shop,
     calls: Vec<Call>,

@@ -10,6 +10,7 @@ use crate::steps::{claim, go_on};
 use batch_history::Report;
 use core_model::{Next, Receipt};
 use core_table::{CoreTable, Pass};
+use leaf_work::Spin;
 use seq_objects::{Act, Op, Reply};
 use sp_order::{Job, Shape};
 use std::alloc::{AllocError, Global};
@@ -29,7 +30,7 @@ fn two_adds(alloc: Global) -> Result<Job, AllocError>
 }
 
 /// Whether both workers start a leaf: worker 0 the left one, and then worker 1 the right one.
-fn both_start(table: &CoreTable, zero: &mut Pass, one: &mut Pass) -> bool
+fn both_start(table: &CoreTable<Spin>, zero: &mut Pass, one: &mut Pass) -> bool
     requires zero { HasNoFlag table.now zero.old }
     requires one { HasNoFlag table.now one.old }
     ensures zero { HasNoFlag table.now zero.new }
@@ -39,7 +40,7 @@ fn both_start(table: &CoreTable, zero: &mut Pass, one: &mut Pass) -> bool
 }
 
 /// Posts this act, if it is a call without a source. Whether it did.
-fn post_act(table: &CoreTable, pass: &mut Pass, act: Next) -> bool
+fn post_act(table: &CoreTable<Spin>, pass: &mut Pass, act: Next) -> bool
     requires own { HasNoFlag table.now pass.old }
     requires due { next_in table.now (pass_view pass.old) ≡ Some act }
     ensures own { HasNoFlag table.now pass.new }
@@ -54,7 +55,7 @@ fn post_act(table: &CoreTable, pass: &mut Pass, act: Next) -> bool
 }
 
 /// Posts the call that is due, where that is wanted. Whether it did all that is wanted.
-fn post(table: &CoreTable, pass: &mut Pass, is_wanted: bool) -> bool
+fn post(table: &CoreTable<Spin>, pass: &mut Pass, is_wanted: bool) -> bool
     requires own { HasNoFlag table.now pass.old }
     ensures own { HasNoFlag table.now pass.new }
 {
@@ -68,7 +69,7 @@ fn post(table: &CoreTable, pass: &mut Pass, is_wanted: bool) -> bool
 }
 
 /// Whether a worker whose call is out hears of no batch, does not win the flag, and finds no receipt.
-fn is_waiting(table: &CoreTable, pass: &mut Pass) -> bool
+fn is_waiting(table: &CoreTable<Spin>, pass: &mut Pass) -> bool
     requires own { HasNoFlag table.now pass.old }
     ensures own { result ≡ true → HasNoFlag table.now pass.new }
 {
@@ -82,7 +83,7 @@ fn is_waiting(table: &CoreTable, pass: &mut Pass) -> bool
 /// just after. Worker 1 finds the flag won, and its call not served.
 fn is_launched(
     alloc: Global,
-    table: &CoreTable,
+    table: &CoreTable<Spin>,
     zero: &mut Pass,
     one: &mut Pass,
     early: bool,
@@ -109,7 +110,7 @@ fn is_launched(
 /// Whether a worker whose call is the only one launches it, where that is wanted.
 fn is_launched_alone(
     alloc: Global,
-    table: &CoreTable,
+    table: &CoreTable<Spin>,
     pass: &mut Pass,
     is_wanted: bool,
 ) -> Result<bool, AllocError>
@@ -137,7 +138,7 @@ fn told(receipt: Receipt) -> (u32, u32, u64) {
 }
 
 /// Whether a worker leaves with this batch, place and number. It then ends its leaf.
-fn leaves_with(table: &CoreTable, pass: &mut Pass, wanted: (u32, u32, u64)) -> bool
+fn leaves_with(table: &CoreTable<Spin>, pass: &mut Pass, wanted: (u32, u32, u64)) -> bool
     requires own { HasNoFlag table.now pass.old }
     ensures own { HasNoFlag table.now pass.new }
 {
@@ -156,7 +157,7 @@ fn leaves_with(table: &CoreTable, pass: &mut Pass, wanted: (u32, u32, u64)) -> b
 /// Whether both calls are served: as one batch where they are launched together, and else as two.
 fn both_are_served(
     alloc: Global,
-    table: &CoreTable,
+    table: &CoreTable<Spin>,
     zero: &mut Pass,
     one: &mut Pass,
     early: bool,
@@ -188,7 +189,7 @@ fn has_rows(report: &Report, wanted: [(u32, u64, u64, u64); 2]) -> bool {
 /// The report of two workers whose calls are launched together, or one after the other, where all goes so.
 fn report_of_two(alloc: Global, early: bool) -> Result<Option<Report>, AllocError> {
     let job = two_adds(alloc)?;
-    let (table, mut passes) = CoreTable::make(alloc, &job, 2)?;
+    let (table, mut passes) = CoreTable::<Spin>::make(alloc, &job, 2)?;
     let mut one = passes.remove(1);
     let mut zero = passes.remove(0);
     if both_are_served(alloc, &table, &mut zero, &mut one, early)? {

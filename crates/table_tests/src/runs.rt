@@ -8,6 +8,7 @@ use batch_history::Report;
 use core_model::Receipt;
 use core_table::{CoreTable, Pass};
 use job_lang::read_job;
+use leaf_work::Spin;
 use run_points::{NoPause, Pause};
 use sp_order::Job;
 use std::alloc::{AllocError, Global};
@@ -63,7 +64,7 @@ fn work_both<M: Send, C: Team<M> + Sync, R: Threads + Wait + Sync>(
 pub(crate) fn work_as_crew<R: Threads + Wait + Sync, G: Pause + Sync>(
     rt: &R,
     alloc: Global,
-    crew: &Crew<G>,
+    crew: &Crew<G, Spin, Spin>,
     zero: &mut Me,
     one: &mut Me,
     plan: Plan,
@@ -72,7 +73,7 @@ pub(crate) fn work_as_crew<R: Threads + Wait + Sync, G: Pause + Sync>(
     requires one { IsReady crew.now one.old }
     ensures { IfOk result.1 (λ _. IsPassOf crew.now.table one.new.pass) }
 {
-    crews_go_to_threads::<G>();
+    crews_go_to_threads::<G, Spin, Spin>();
     workers_go_to_threads();
     work_both(rt, alloc, crew, zero, one, plan)
 }
@@ -80,7 +81,7 @@ pub(crate) fn work_as_crew<R: Threads + Wait + Sync, G: Pause + Sync>(
 /// The report of a table, where a worker sees that the root is done.
 pub(crate) fn report_of(
     alloc: Global,
-    table: CoreTable,
+    table: CoreTable<Spin>,
     pass: Pass,
 ) -> Result<Option<Report>, AllocError>
     requires { IsPassOf table pass }
@@ -106,7 +107,7 @@ fn run_both<R: Threads + Wait + Sync, G: Pause + Sync>(
 ) -> Result<Option<Ran>, AllocError>
     requires { IsSome job.now.shape }
 {
-    let (crew, mut mes) = Crew::make(alloc, job, 2, pause)?;
+    let (crew, mut mes) = Crew::<_, Spin, Spin>::make(alloc, job, 2, pause, &Spin)?;
     let mut one = mes.remove(1);
     let mut zero = mes.remove(0);
     let plan = Plan::Call(calls);
@@ -120,6 +121,7 @@ fn run_both<R: Threads + Wait + Sync, G: Pause + Sync>(
         board: _,
         workers: _,
         pause: _,
+        work: _,
     } = crew;
     match report_of(alloc, table, one.pass)? {
         Some(report) => Ok(Some((report, first, second))),

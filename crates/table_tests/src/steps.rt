@@ -5,10 +5,11 @@ ghost use Rattle.table_tests.specs.Tables.{HasNoFlag};
 
 use core_model::Next;
 use core_table::{CoreTable, Pass};
+use leaf_work::Spin;
 use seq_objects::value;
 
 /// Makes this act, unless it is a call or work. Whether it did.
-fn make_act(table: &CoreTable, pass: &mut Pass, act: Next) -> bool
+fn make_act(table: &CoreTable<Spin>, pass: &mut Pass, act: Next) -> bool
     requires own { HasNoFlag table.now pass.old }
     requires free { IsNotTrapped pass.old }
     requires due { next_in table.now (pass_view pass.old) ≡ Some act }
@@ -36,7 +37,7 @@ fn make_act(table: &CoreTable, pass: &mut Pass, act: Next) -> bool
 }
 
 /// Makes the next act, unless it is a call or work, or the call is out. Whether it did.
-fn step(table: &CoreTable, pass: &mut Pass) -> bool
+fn step(table: &CoreTable<Spin>, pass: &mut Pass) -> bool
     requires own { HasNoFlag table.now pass.old }
     ensures own { HasNoFlag table.now pass.new }
     ensures worker { (pass_view pass.new).worker ≡ (pass_view pass.old).worker }
@@ -51,7 +52,7 @@ fn step(table: &CoreTable, pass: &mut Pass) -> bool
 }
 
 /// Makes acts until the task is idle or a call is due.
-pub(crate) fn go_on(table: &CoreTable, pass: &mut Pass)
+pub(crate) fn go_on(table: &CoreTable<Spin>, pass: &mut Pass)
     requires own { HasNoFlag table.now pass.old }
     ensures own { HasNoFlag table.now pass.new }
     ensures worker { (pass_view pass.new).worker ≡ (pass_view pass.old).worker }
@@ -64,7 +65,7 @@ pub(crate) fn go_on(table: &CoreTable, pass: &mut Pass)
 }
 
 /// Claims the node, if the task is idle and the node is ready, and goes on. Whether it did.
-pub(crate) fn claim(table: &CoreTable, pass: &mut Pass, node: u32) -> bool
+pub(crate) fn claim(table: &CoreTable<Spin>, pass: &mut Pass, node: u32) -> bool
     requires own { HasNoFlag table.now pass.old }
     ensures own { HasNoFlag table.now pass.new }
     ensures worker { (pass_view pass.new).worker ≡ (pass_view pass.old).worker }

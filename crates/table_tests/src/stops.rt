@@ -3,6 +3,7 @@
 use crate::runs::work_as_crew;
 use crate::workers::{Plan, Team};
 use job_lang::read_job;
+use leaf_work::Spin;
 use run_points::NoPause;
 use sp_order::Job;
 use std::alloc::{AllocError, Global};
@@ -17,7 +18,7 @@ fn is_stopped<R: Wait>(rt: &R, alloc: Global, job: &Job, calls: bool) -> Result<
     if job.shape().is_none() {
         return Ok(false);
     }
-    let (crew, mut mes) = Crew::make(alloc, job, 2, &NoPause)?;
+    let (crew, mut mes) = Crew::<_, Spin, Spin>::make(alloc, job, 2, &NoPause, &Spin)?;
     let mut one = mes.remove(1);
     let mut zero = mes.remove(0);
     crew.table.stop(&mut one.pass);
@@ -50,7 +51,7 @@ fn is_stopped_in_its_wait<R: Threads + Wait + Sync>(
     let pause = AtPieces {
         pieces: Meeting::new(),
     };
-    let (crew, mut mes) = Crew::make(alloc, job, 2, &pause)?;
+    let (crew, mut mes) = Crew::<_, Spin, Spin>::make(alloc, job, 2, &pause, &Spin)?;
     let mut one = mes.remove(1);
     let mut zero = mes.remove(0);
     let (called, left) = work_as_crew(rt, alloc, &crew, &mut zero, &mut one, Plan::LeaveAPiece);

@@ -4,6 +4,7 @@ ghost use Rattle.table_tests.specs.Tables.{IsUnused, AreUnused};
 
 use core_table::laws::tables_go_to_threads;
 use core_table::{CoreTable, Pass};
+use leaf_work::Spin;
 use seq_objects::Act;
 use sp_order::{Job, Shape};
 use std::alloc::{AllocError, Global};
@@ -20,7 +21,7 @@ fn one_leaf(alloc: Global) -> Result<Job, AllocError>
 }
 
 /// Asks for the number of batches, and tries to claim the root.
-fn tries(table: &CoreTable, pass: Pass) -> bool
+fn tries(table: &CoreTable<Spin>, pass: Pass) -> bool
     requires { IsUnused table.now pass }
 {
     let mut pass = pass;
@@ -32,7 +33,7 @@ fn tries(table: &CoreTable, pass: Pass) -> bool
 /// Whether each pass, on a thread of its own, claims the root.
 fn try_in_threads<R: Threads + Sync>(
     rt: &R,
-    table: &CoreTable,
+    table: &CoreTable<Spin>,
     passes: Vec<Pass>,
 ) -> Result<Vec<bool>, AllocError>
     requires passes { AreUnused table.now passes.items }
@@ -45,7 +46,7 @@ fn try_in_threads<R: Threads + Sync>(
 fn one_of_two_threads_claims_the_root(rt: HostRuntime) -> Result<(), Fail> {
     let alloc = rt.alloc();
     let job = one_leaf(alloc)?;
-    let (table, passes) = CoreTable::make(alloc, &job, 2)?;
+    let (table, passes) = CoreTable::<Spin>::make(alloc, &job, 2)?;
     let claimed = try_in_threads(&rt, &table, passes)?;
     assert!(rt; claimed.len() == 2 && claimed[0] != claimed[1]);
     Ok(())

@@ -7,6 +7,7 @@ ghost use Rattle.worker_crew.specs.Workers.{IsMeOf};
 
 use crate::steps::{claim, go_on};
 use core_model::Next;
+use leaf_work::Spin;
 use run_points::{Pause, Point};
 use std::alloc::Global;
 use std::sync::Wait;
@@ -23,7 +24,7 @@ pub(crate) struct Made {
 fn make_call<G: Pause, R: Wait>(
     rt: &R,
     alloc: Global,
-    crew: &Crew<G>,
+    crew: &Crew<G, Spin, Spin>,
     me: &mut Me,
     act: Next,
     made: &mut Vec<Made>,
@@ -50,7 +51,7 @@ fn make_call<G: Pause, R: Wait>(
 fn try_node<G: Pause, R: Wait>(
     rt: &R,
     alloc: Global,
-    crew: &Crew<G>,
+    crew: &Crew<G, Spin, Spin>,
     me: &mut Me,
     node: u32,
     made: &mut Vec<Made>,
@@ -79,7 +80,7 @@ const NODES: u32 = 400;
 fn work_to<G: Pause, R: Wait>(
     rt: &R,
     alloc: Global,
-    crew: &Crew<G>,
+    crew: &Crew<G, Spin, Spin>,
     me: &mut Me,
     calls: usize,
 ) -> Result<Vec<Made>, Stop>
@@ -105,7 +106,7 @@ fn work_to<G: Pause, R: Wait>(
 
 /// Takes a piece of worker 0's launch, and ends as a worker does that is out of memory: it sets the stop word, and never
 /// finishes the piece.
-fn leave_a_piece<G: Pause, R: Wait>(rt: &R, crew: &Crew<G>, me: &mut Me) -> Stop
+fn leave_a_piece<G: Pause, R: Wait>(rt: &R, crew: &Crew<G, Spin, Spin>, me: &mut Me) -> Stop
     requires me { IsMeOf crew.now me.old }
     requires other { (held me.old.hand).worker ≢ 0 }
 {
@@ -151,7 +152,7 @@ pub(crate) trait Team<M> {
         ensures ready { IfOk result (λ _. ready self.now me.new) };
 }
 
-impl<'a, G: Pause> Team<Me> for Crew<'a, G> {
+impl<'a, G: Pause> Team<Me> for Crew<'a, G, Spin, Spin> {
     ghost ready = { λ crew me. IsMeOf crew me × ((pass_view me.pass).hold ≡ None)
         × ((desk_view me.desk).posted ≡ []) };
 

@@ -13,3 +13,5 @@ mod deques;
 mod pieces;
 #[cfg(test)]
 mod runs;
+#[cfg(test)]
+mod works;

@@ -11,5 +11,5 @@ not_trapped NotCalled ne = refl
 not_trapped Out ne = absurd (ne refl)
 not_trapped (Got receipt) ne = refl
 
-pub free_of : (table : CoreTable) (pass : Pass) → IsPassOf table pass → IsNotTrapped pass → IsFree (pass_view pass)
+pub free_of : {B : Type 0} (table : CoreTable B) (pass : Pass) → IsPassOf table pass → IsNotTrapped pass → IsFree (pass_view pass)
 free_of table pass own ne = (not_trapped (pass_view pass).call ne, (own.7.free ne).0)

@@ -10,6 +10,8 @@ use Rattle.two_deques.specs.Tries.{first_tries}
 use Rattle.piece_board.specs.Boards.{desk_view}
 use Rattle.piece_board.specs.Desks.{fresh_desk}
 use Rattle.core_table.specs.declared.table.CoreTable.{CoreTable}
+use Rattle.leaf_work.specs.declared.brand.WorkBrand.{Ghosts as BrandOf}
+use Rattle.leaf_work.specs.declared.function.LeafWork.{Ghosts as WorkOf}
 use Rattle.worker_crew.specs.declared.crew.Crew.{Crew}
 use Rattle.worker_crew.specs.declared.crew.Me.{Me}
 use Rattle.core_table.specs.declared.table.Pass.{Pass}
@@ -34,16 +36,16 @@ opening_hand worker workers =
 
 -- Over its lifetime, each deque of nodes is guaranteed to take one push for each node of the table's job, and each deque
 -- of pieces `PUSHES_A_CALL` for each leaf that calls.
-abbrev pub HaveRooms : CoreTable → Decks → Type 0
+abbrev pub HaveRooms : {B : Type 0} → CoreTable B → Decks → Type 0
 HaveRooms table decks = (core_room_of decks ≡ (job_in table).plan.count)
     × (batch_room_of decks ≡ PUSHES_A_CALL * count_by is_call (planned_in table).acts)
 
 -- the passes of a table that was just made, indexed by worker
-abbrev pub AreNewPasses : CoreTable → ℕ → List Pass → Type 0
+abbrev pub AreNewPasses : {B : Type 0} → CoreTable B → ℕ → List Pass → Type 0
 AreNewPasses table workers passes = (length passes ≡ workers)
     × ((w : ℕ) → IfSome (slice_get passes w) (λ pass. IsPassOf table pass × (view pass ≡ opening_view table w)))
 
-module _ {G : Type 0} (crew : Crew G) where
+module _ {G B W : Type 0} {b : BrandOf B} {w : WorkOf W} (crew : Crew G B W b w) where
   -- `me` is this worker, ready for its first turn: its pass, its desk and its tries are unused, and its hand is the
   -- initial one
   pub record IsAtStart (worker : ℕ) (me : Me) : Type 0 where

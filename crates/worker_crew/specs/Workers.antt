@@ -6,6 +6,8 @@ use Rattle.two_deques.specs.Hands.{held, workers_of, IsHandOf}
 use Rattle.two_deques.specs.Tries.{TriesView}
 use Rattle.piece_board.specs.declared.view.DeskView.{DeskView}
 use Rattle.piece_board.specs.Boards.{desk_view, IsDeskOf}
+use Rattle.leaf_work.specs.declared.brand.WorkBrand.{Ghosts as BrandOf}
+use Rattle.leaf_work.specs.declared.function.LeafWork.{Ghosts as WorkOf}
 use Rattle.launch_batch.specs.declared.piece.PieceIn.{PieceIn}
 use Rattle.core_table.specs.Passes.{IsPassOf, pass_view}
 use Rattle.worker_crew.specs.declared.crew.Crew.{Crew}
@@ -34,7 +36,7 @@ me_seen me = record {
 
 -- The pass belongs to the crew's table, the hand to its deques and the desk to its board. All of them, and the tries, are
 -- of one and the same worker number, and the tries and the deques agree on the number of workers.
-pub record IsMeOf {G : Type 0} (crew : Crew G) (me : Me) : Type 0 where
+pub record IsMeOf {G B W : Type 0} {b : BrandOf B} {w : WorkOf W} (crew : Crew G B W b w) (me : Me) : Type 0 where
   pub pass : IsPassOf crew.table me.pass
   pub hand : IsHandOf crew.decks me.hand
   pub desk : IsDeskOf crew.board me.desk
@@ -45,7 +47,7 @@ pub record IsMeOf {G : Type 0} (crew : Crew G) (me : Me) : Type 0 where
 
 -- The worker may take the turn of a free worker: it has no call out, no flag and no task, and all places of its row on
 -- the board are free.
-pub record IsReady {G : Type 0} (crew : Crew G) (me : Me) : Type 0 where
+pub record IsReady {G B W : Type 0} {b : BrandOf B} {w : WorkOf W} (crew : Crew G B W b w) (me : Me) : Type 0 where
   pub own : IsMeOf crew me
   pub free : IsFree (pass_view me.pass)
   pub idle : (pass_view me.pass).task ≡ Idle

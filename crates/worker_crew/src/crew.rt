@@ -10,20 +10,22 @@ mod opening;
 
 use crate::batch_pieces::BatchPieces;
 use core_table::{CoreTable, Pass};
+use leaf_work::{BrandedWork, LeafWork, WorkBrand};
 pub use opening::{PUSHES_A_CALL, deck_rooms};
 use piece_board::{Board, Desk};
 use std::alloc::{AllocError, AllocFailed};
 use two_deques::{Decks, Hand, Tries};
 
-/// What all workers share: the table, the deques, the board, the number of workers, and where a test may hold them
-/// (`run_points::Pause`).
+/// What all workers share: the table, the deques, the board, the number of workers, where a test may hold them
+/// (`run_points::Pause`), and what their leaves of work run. `B` says what that computes.
 #[derive(Drop)]
-pub struct Crew<'a, G> {
-    pub table: CoreTable,
+pub struct Crew<'a, G, B: WorkBrand, W: LeafWork> {
+    pub table: CoreTable<B>,
     pub decks: Decks,
     pub board: Board<BatchPieces>,
     pub workers: u32,
     pub pause: &'a G,
+    pub work: BrandedWork<'a, B, W>,
     pub ghost job: { workers ≡ (job_in table).workers },
     pub ghost few: { (0 < workers) × (workers ≤ MOST_WORKERS) },
     pub ghost each: { (workers ≡ workers_of decks) × (workers ≡ rows_of board) },

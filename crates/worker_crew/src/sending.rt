@@ -21,6 +21,7 @@ ghost use Rattle.worker_crew.specs.contracts.crew.Me.{the_row as me_row};
 use crate::batch_pieces::BatchPieces;
 use core_table::laws::{is_sent, is_shared, tables_go_to_threads};
 use launch_batch::{PieceIn, PieceOut};
+use leaf_work::{LeafWork, WorkBrand};
 use piece_board::{Board, Desk};
 use two_deques::{DeckPair, Decks, Hand, Stealers};
 
@@ -64,9 +65,9 @@ pub fn workers_go_to_threads()
     decks_go_to_threads();
 }
 
-/// A crew can be shared between threads if its `Pause` can.
-pub fn crews_go_to_threads<G: Sync>()
-    ensures { (l : NamedLft) → IsSync (crew_row l G.row) }
+/// A crew can be shared between threads if its `Pause` and the work of its leaves can.
+pub fn crews_go_to_threads<G: Sync, B: WorkBrand + Send + Sync, W: LeafWork + Sync>()
+    ensures { (l : NamedLft) → IsSync (crew_row l G.row B.row W.row) }
 {
     tables_go_to_threads();
     boards_go_to_threads();

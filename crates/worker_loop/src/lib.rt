@@ -11,7 +11,7 @@
 
 mod table_run;
 
-pub use table_run::run_table;
+pub use table_run::{run_table, run_table_with};
 pub use worker_turns::{
     Called, Crew, Did, Me, Stop, Trapped, call, free_turn, launch, trapped_turn,
 };

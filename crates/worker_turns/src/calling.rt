@@ -20,6 +20,7 @@ use crate::trapped::{Trapped, trapped_turn};
 use core_model::{Next, Receipt};
 use core_table::{CoreTable, Pass};
 use crossbeam_utils::Backoff;
+use leaf_work::{LeafWork, WorkBrand};
 use run_points::{Pause, Point};
 use seq_objects::Op;
 use sp_order::with_value;
@@ -37,7 +38,7 @@ pub struct Called {
 }
 
 /// The operation of the act that is due, a call of this leaf.
-fn op_in_act(table: &CoreTable, pass: &Pass, leaf: u32) -> Op
+fn op_in_act<B: WorkBrand>(table: &CoreTable<B>, pass: &Pass, leaf: u32) -> Op
     requires pass { IsPassOf table.now pass.now }
     requires free { IsFree (pass_view pass.now) }
     requires due { IsCallDue leaf (next_in table.now (pass_view pass.now)) }
@@ -58,7 +59,7 @@ fn op_in_act(table: &CoreTable, pass: &Pass, leaf: u32) -> Op
 
 /// The operation that the due call is posted with: that of its act; where the leaf has a source, with the source's value
 /// as its argument.
-fn op_to_post(table: &CoreTable, pass: &mut Pass, leaf: u32, op: Op) -> Op
+fn op_to_post<B: WorkBrand>(table: &CoreTable<B>, pass: &mut Pass, leaf: u32, op: Op) -> Op
     requires pass { IsPassOf table.now pass.old }
     requires free { IsFree (pass_view pass.old) }
     requires due { (n : ℕ) × (start : ℕ) × (next_in table.now (pass_view pass.old) ≡ Some (acts.Call n start leaf op)) }
@@ -77,10 +78,10 @@ fn op_to_post(table: &CoreTable, pass: &mut Pass, leaf: u32, op: Op) -> Op
 /// Makes the call that is due, of this leaf and by its act: posts it, and takes trapped turns until the worker leaves with
 /// its receipt.
 #[tactic(auto, using(crate::proofs::CarryLemmas::Steps::front_none, crate::proofs::CarryLemmas::Steps::front_then))]
-pub(crate) fn make_call<G: Pause, R: Wait>(
+pub(crate) fn make_call<G: Pause, B: WorkBrand, W: LeafWork, R: Wait>(
     rt: &R,
     alloc: Global,
-    crew: &Crew<G>,
+    crew: &Crew<G, B, W>,
     me: &mut Me,
     leaf: u32,
     op: Op,
@@ -126,10 +127,10 @@ pub(crate) fn make_call<G: Pause, R: Wait>(
 
 /// Makes the call of a leaf, with the operation that the table names: posts it, and takes trapped turns until the
 /// worker leaves with its receipt.
-pub fn call<G: Pause, R: Wait>(
+pub fn call<G: Pause, B: WorkBrand, W: LeafWork, R: Wait>(
     rt: &R,
     alloc: Global,
-    crew: &Crew<G>,
+    crew: &Crew<G, B, W>,
     me: &mut Me,
     leaf: u32,
 ) -> Result<Called, Stop>

@@ -10,18 +10,18 @@ ghost use Rattle.worker_turns.specs.Free.{RanToIdle};
 
 use crate::calling::make_call;
 use core_model::Next;
+use leaf_work::{LeafWork, WorkBrand};
 use run_points::{Pause, Point};
 use seq_objects::value;
-use seq_objects::work::spin;
 use std::alloc::Global;
 use std::sync::Wait;
 use worker_crew::{Crew, Me, Stop};
 
 /// Makes the worker's next act. A `Call` takes as long as the call.
-fn make_act<G: Pause, R: Wait>(
+fn make_act<G: Pause, B: WorkBrand, W: LeafWork, R: Wait>(
     rt: &R,
     alloc: Global,
-    crew: &Crew<G>,
+    crew: &Crew<G, B, W>,
     me: &mut Me,
     act: Next,
 ) -> Result<(), Stop>
@@ -50,7 +50,10 @@ fn make_act<G: Pause, R: Wait>(
                 return Err(Stop::Memory);
             }
         }
-        Next::Spin { steps, .. } => crew.table.keep(&mut me.pass, u64::from(spin(steps))),
+        Next::Spin { steps, .. } => {
+            let worked = crew.work.run(alloc, steps)?;
+            crew.table.keep(&mut me.pass, u64::from(worked));
+        }
         Next::Call { leaf, op, .. } => {
             make_call(rt, alloc, crew, me, leaf, op)?;
         }
@@ -64,10 +67,10 @@ fn make_act<G: Pause, R: Wait>(
 }
 
 /// Makes the worker's acts until its task is idle. A second arrival or the last side of a series continues with the block.
-pub(crate) fn run_to_idle<G: Pause, R: Wait>(
+pub(crate) fn run_to_idle<G: Pause, B: WorkBrand, W: LeafWork, R: Wait>(
     rt: &R,
     alloc: Global,
-    crew: &Crew<G>,
+    crew: &Crew<G, B, W>,
     me: &mut Me,
 ) -> Result<(), Stop>
     requires me { IsMeOf crew.now me.old }

@@ -13,6 +13,7 @@ use crate::attempts::{NodeAttempt, PieceAttempt, StealAttempt};
 use crate::carry::run_to_idle;
 use crate::pieces::{claim_and_run, pop_own_piece};
 use core_table::{CoreTable, Pass};
+use leaf_work::{LeafWork, WorkBrand};
 use run_points::Pause;
 use std::alloc::Global;
 use std::sync::Wait;
@@ -32,7 +33,7 @@ pub enum Did {
 }
 
 /// Tries to claim the node, if there is one.
-fn claim_found(table: &CoreTable, pass: &mut Pass, found: Option<u32>) -> NodeAttempt
+fn claim_found<B: WorkBrand>(table: &CoreTable<B>, pass: &mut Pass, found: Option<u32>) -> NodeAttempt
     requires pass { IsPassOf table.now pass.old }
     requires free { IsFree (pass_view pass.old) }
     requires idle { (pass_view pass.old).task ≡ Idle }
@@ -51,7 +52,7 @@ fn claim_found(table: &CoreTable, pass: &mut Pass, found: Option<u32>) -> NodeAt
 }
 
 /// Pops the worker's own deque of nodes once, and tries to claim what it gives.
-fn pop_own_node<G: Pause>(crew: &Crew<G>, me: &mut Me) -> NodeAttempt
+fn pop_own_node<G: Pause, B: WorkBrand, W: LeafWork>(crew: &Crew<G, B, W>, me: &mut Me) -> NodeAttempt
     requires me { IsMeOf crew.now me.old }
     requires free { IsFree (pass_view me.old.pass) }
     requires idle { (pass_view me.old.pass).task ≡ Idle }
@@ -64,10 +65,10 @@ fn pop_own_node<G: Pause>(crew: &Crew<G>, me: &mut Me) -> NodeAttempt
 
 /// Makes the turn's one steal, at the deque that `Tries` names next. A node is claimed and not yet carried on; a piece
 /// is claimed and run.
-fn steal_once<G: Pause, R: Wait>(
+fn steal_once<G: Pause, B: WorkBrand, W: LeafWork, R: Wait>(
     rt: &R,
     alloc: Global,
-    crew: &Crew<G>,
+    crew: &Crew<G, B, W>,
     me: &mut Me,
 ) -> Result<StealAttempt, Stop>
     requires me { IsMeOf crew.now me.old }
@@ -96,10 +97,10 @@ fn steal_once<G: Pause, R: Wait>(
 /// One turn of a free worker. It looks at the stop word, and then tries in this order: a node of its own deque, a piece
 /// of its own deque, and one steal. A claimed node is carried on until the task is idle again. A refused claim ends the
 /// turn.
-pub fn free_turn<G: Pause, R: Wait>(
+pub fn free_turn<G: Pause, B: WorkBrand, W: LeafWork, R: Wait>(
     rt: &R,
     alloc: Global,
-    crew: &Crew<G>,
+    crew: &Crew<G, B, W>,
     me: &mut Me,
 ) -> Result<Did, Stop>
     requires me { IsMeOf crew.now me.old }

@@ -18,6 +18,7 @@ use batch_history::Entry;
 use core_model::Receipt;
 use core_table::{CoreTable, Pass};
 use launch_batch::Shop;
+use leaf_work::{LeafWork, WorkBrand};
 use run_points::Pause;
 use seq_objects::Call;
 use sp_order::laws::plan_stands_for_tree;
@@ -27,7 +28,7 @@ use worker_crew::{Crew, Me, Stop};
 
 /// Looks at worker `u`, the next in order, and takes its call if that is pending. If the calls taken before can be
 /// served as one batch, then so can they with this call.
-fn take_pending(table: &CoreTable, pass: &mut Pass, u: u32) -> Option<Call>
+fn take_pending<B: WorkBrand>(table: &CoreTable<B>, pass: &mut Pass, u: u32) -> Option<Call>
     requires pass { IsPassOf table.now pass.old }
     requires below { u < (job_in table.now).workers }
     requires next { (h : HoldView) × ((pass_view pass.old).hold ≡ Some h) × (u ≡ h.looks) }
@@ -48,9 +49,9 @@ fn take_pending(table: &CoreTable, pass: &mut Pass, u: u32) -> Option<Call>
 }
 
 /// Looks at each worker once, in order from 0, and takes each call that is pending at its look.
-fn collect_pending(
+fn collect_pending<B: WorkBrand>(
     alloc: Global,
-    table: &CoreTable,
+    table: &CoreTable<B>,
     pass: &mut Pass,
     workers: u32,
 ) -> Result<Vec<Call>, Stop>
@@ -72,7 +73,7 @@ fn collect_pending(
 }
 
 /// Answers the calls of the batch in batch order. `number` is the batch's number.
-fn answer_all(table: &CoreTable, pass: &mut Pass, batch: &[Entry], number: u32)
+fn answer_all<B: WorkBrand>(table: &CoreTable<B>, pass: &mut Pass, batch: &[Entry], number: u32)
     requires pass { IsPassOf table.now pass.old }
     requires published { Holds (IsAnswerable number batch.now) (pass_view pass.old).hold }
     ensures pass { IsPassOf table.now pass.new }
@@ -91,10 +92,10 @@ fn answer_all(table: &CoreTable, pass: &mut Pass, batch: &[Entry], number: u32)
 
 /// Serves the calls as one batch, whose pieces all workers may run, publishes it, and answers the calls. Returns the
 /// shop.
-fn serve_batch<G: Pause, R: Wait>(
+fn serve_batch<G: Pause, B: WorkBrand, W: LeafWork, R: Wait>(
     rt: &R,
     alloc: Global,
-    crew: &Crew<G>,
+    crew: &Crew<G, B, W>,
     me: &mut Me,
     shop: Shop,
     calls: Vec<Call>,
@@ -120,10 +121,10 @@ fn serve_batch<G: Pause, R: Wait>(
 
 /// The combiner's work after it won the flag: takes the calls that it finds pending, serves them as one batch, answers
 /// them, and releases the flag. If it finds none, it only releases the flag.
-pub fn launch<G: Pause, R: Wait>(
+pub fn launch<G: Pause, B: WorkBrand, W: LeafWork, R: Wait>(
     rt: &R,
     alloc: Global,
-    crew: &Crew<G>,
+    crew: &Crew<G, B, W>,
     me: &mut Me,
     shop: Shop,
 ) -> Result<(), Stop>

@@ -7,6 +7,7 @@ ghost use Rattle.worker_turns.specs.Pieces.{spot_of, desk_after, piece_try, afte
 
 use crate::attempts::PieceAttempt;
 use launch_batch::run_piece;
+use leaf_work::{LeafWork, WorkBrand};
 use run_points::{Pause, Point};
 use std::alloc::Global;
 use std::sync::Wait;
@@ -18,9 +19,9 @@ mod serving;
 pub(crate) use serving::serve_pieces;
 
 /// Claims the piece of the spot, if a spot was found, and runs it. A spot whose claim is refused is dropped.
-pub(crate) fn claim_and_run<G: Pause>(
+pub(crate) fn claim_and_run<G: Pause, B: WorkBrand, W: LeafWork>(
     alloc: Global,
-    crew: &Crew<G>,
+    crew: &Crew<G, B, W>,
     me: &mut Me,
     found: Option<Spot>,
 ) -> Result<PieceAttempt, Stop>
@@ -45,9 +46,9 @@ pub(crate) fn claim_and_run<G: Pause>(
 }
 
 /// Pops the worker's own deque of pieces once, and claims and runs what it gives.
-pub(crate) fn pop_own_piece<G: Pause>(
+pub(crate) fn pop_own_piece<G: Pause, B: WorkBrand, W: LeafWork>(
     alloc: Global,
-    crew: &Crew<G>,
+    crew: &Crew<G, B, W>,
     me: &mut Me,
 ) -> Result<PieceAttempt, Stop>
     requires me { IsMeOf crew.now me.old }
@@ -78,10 +79,10 @@ fn next_victim(tries: &mut Tries) -> Option<u32>
 }
 
 /// Tries to steal one piece, if there is another worker, and claims and runs what the steal gives.
-pub(crate) fn steal_other_piece<G: Pause, R: Wait>(
+pub(crate) fn steal_other_piece<G: Pause, B: WorkBrand, W: LeafWork, R: Wait>(
     rt: &R,
     alloc: Global,
-    crew: &Crew<G>,
+    crew: &Crew<G, B, W>,
     me: &mut Me,
 ) -> Result<PieceAttempt, Stop>
     requires me { IsMeOf crew.now me.old }

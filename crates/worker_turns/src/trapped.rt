@@ -14,6 +14,7 @@ use crate::attempts::PieceAttempt;
 use crate::launching::launch;
 use crate::pieces::{pop_own_piece, steal_other_piece};
 use core_model::Receipt;
+use leaf_work::{LeafWork, WorkBrand};
 use run_points::{Pause, Point};
 use std::alloc::Global;
 use std::sync::Wait;
@@ -35,10 +36,10 @@ pub enum Trapped {
 /// One turn of a trapped worker. It looks at the stop word, and then tries in this order: to run a piece of its own
 /// deque; to leave; to win the flag and launch; and to steal one piece. The first that succeeds ends the turn.
 #[tactic(auto, using(crate::proofs::CarryLemmas::Steps::front_none))]
-pub fn trapped_turn<G: Pause, R: Wait>(
+pub fn trapped_turn<G: Pause, B: WorkBrand, W: LeafWork, R: Wait>(
     rt: &R,
     alloc: Global,
-    crew: &Crew<G>,
+    crew: &Crew<G, B, W>,
     me: &mut Me,
 ) -> Result<Trapped, Stop>
     requires me { IsMeOf crew.now me.old }

@@ -8,6 +8,7 @@ use crate::back_off::back_off;
 use crate::free::{Did, free_turn};
 use core_table::Pass;
 use crossbeam_utils::Backoff;
+use leaf_work::{LeafWork, WorkBrand};
 use run_points::Pause;
 use std::alloc::Global;
 use std::sync::Wait;
@@ -16,10 +17,10 @@ use worker_crew::{Crew, Me, Stop};
 /// One free turn of a worker. After a turn that did nothing the worker looks once at the root, and backs off unless that
 /// is done. Returns whether the worker goes on. If memory runs out in the turn, the worker sets the stop word to stop
 /// the others.
-fn turn<G: Pause, R: Wait>(
+fn turn<G: Pause, B: WorkBrand, W: LeafWork, R: Wait>(
     rt: &R,
     alloc: Global,
-    crew: &Crew<G>,
+    crew: &Crew<G, B, W>,
     me: &mut Me,
     backoff: &Backoff,
 ) -> bool
@@ -47,7 +48,7 @@ fn turn<G: Pause, R: Wait>(
 
 /// A worker's main loop: takes turns until the worker sees the root done, sets the stop word or finds it set. Returns
 /// its pass.
-pub fn work<G: Pause, R: Wait>(rt: &R, alloc: Global, crew: &Crew<G>, me: Me) -> Pass
+pub fn work<G: Pause, B: WorkBrand, W: LeafWork, R: Wait>(rt: &R, alloc: Global, crew: &Crew<G, B, W>, me: Me) -> Pass
     requires ready { IsReady crew.now me }
     ensures pass { IsPassOf crew.now.table result }
     ensures ended { ((view result).saw_done ≡ true) ⊎ KnowsStop (pass_view result) }

@@ -32,7 +32,7 @@ use Rattle.worker_turns.proofs.HoldLemmas.Serving as serving
 use Rattle.table_tests.specs.Launches.{HasFlag, Answers}
 use Rattle.table_tests.specs.Tables.{IsForTwo}
 
-few_calls : (t : CoreTable) → IsForTwo t → call_count (job_in t) ≤ 20000
+few_calls : {B : Type 0} (t : CoreTable B) → IsForTwo t → call_count (job_in t) ≤ 20000
 unfolding nodes_of
 few_calls t two =
     let some = room_few (job_in t) in
@@ -43,7 +43,7 @@ not_none : (calls : List Call) → 0 < length calls → calls ≢ []
 not_none [] some e = absurd (omega (arith, some))
 not_none (c ∷ calls) some e = absurd (cc)
 
-module _ (t : CoreTable) (n : ℕ) (before : List (List Entry)) (calls : List Call) (p : Pass) (f : HasFlag t before n calls p) where
+module _ {B : Type 0} (t : CoreTable B) (n : ℕ) (before : List (List Entry)) (calls : List Call) (p : Pass) (f : HasFlag t before n calls p) where
   -- the calls that were taken can be served
   pub flag_serves : 0 < length calls → MayServe before calls
   flag_serves some =
@@ -128,14 +128,14 @@ workers_more (e ∷ batch) (suc i) d low =
     ap (λ l. e.worker ∷ l) (workers_more batch i d (omega (arith, low))) ∙ ap (λ k. take k (workers_in (e ∷ batch))) next
 
 -- a batch has not many entries
-pub answers_few : (t : CoreTable) (before : List (List Entry)) (batch : List Entry) (i : ℕ) (p : Pass) → Answers t before batch i p → length batch ≤ 20000
+pub answers_few : {B : Type 0} (t : CoreTable B) (before : List (List Entry)) (batch : List Entry) (i : ℕ) (p : Pass) → Answers t before batch i p → length batch ≤ 20000
 answers_few t before batch i p a =
     let s = a.answered.published in
     let many = sym (length-map batch call_in) ∙ length_same a.h.taken (calls_in batch) s.service.same in
     let most = s.may.most in
     omega (arith, many, most)
 
-module _ (t : CoreTable) (before : List (List Entry)) (batch : List Entry) (i : ℕ) (d : Entry) (p : Pass) (a : Answers t before batch i p) where
+module _ {B : Type 0} (t : CoreTable B) (before : List (List Entry)) (batch : List Entry) (i : ℕ) (d : Entry) (p : Pass) (a : Answers t before batch i p) where
   -- what an answer needs of the hold
   abbrev Due : ℕ → Type 0
   Due number = (call : OpRecord) × (a.h.published ≡ true) × (record_in a.h.taken (get_or batch i d).worker ≡ Some call)
@@ -171,7 +171,7 @@ module _ (t : CoreTable) (before : List (List Entry)) (batch : List Entry) (i : 
         };
       }
 
-pub all_answered : (t : CoreTable) (before : List (List Entry)) (batch : List Entry) (p : Pass) → Answers t before batch (length batch) p
+pub all_answered : {B : Type 0} (t : CoreTable B) (before : List (List Entry)) (batch : List Entry) (p : Pass) → Answers t before batch (length batch) p
     → (h : HoldView) × ((pass_view p).hold ≡ Some h) × IsReleaseDue (job_in t).workers h × (before ++ batch ∷ [] ≡ h.book)
 all_answered t before batch p a =
     let long = length-map batch (λ (e : Entry). e.worker) in

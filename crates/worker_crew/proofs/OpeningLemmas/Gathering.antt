@@ -10,6 +10,8 @@ use Rattle.piece_board.specs.Boards.{desk_view, IsDeskOf}
 use Rattle.piece_board.specs.Desks.{fresh_desk}
 use Rattle.launch_batch.specs.declared.piece.PieceIn.{PieceIn}
 use Rattle.core_table.specs.Passes.{IsPassOf, pass_view}
+use Rattle.leaf_work.specs.declared.brand.WorkBrand.{Ghosts as BrandOf}
+use Rattle.leaf_work.specs.declared.function.LeafWork.{Ghosts as WorkOf}
 use Rattle.worker_crew.specs.declared.crew.Crew.{Crew}
 use Rattle.worker_crew.specs.declared.crew.Me.{Me}
 use Rattle.worker_crew.specs.Opening.{with_root, opening_hand, IsAtStart, AreAtStartUpTo}
@@ -21,7 +23,7 @@ worker_by : (b : Bool) (h : Held) → (if b then with_root h else h).worker ≡ 
 worker_by true h = refl
 worker_by false h = refl
 
-module _ {G : Type 0} (crew : Crew G) where
+module _ {G B W : Type 0} {b : BrandOf B} {w : WorkOf W} (crew : Crew G B W b w) where
   pub at_start : (worker : ℕ) (me : Me) → IsPassOf crew.table me.pass × (pass_view me.pass ≡ unused worker) → IsHandOf crew.decks me.hand → held me.hand ≡ opening_hand worker crew.workers
       → IsDeskOf crew.board me.desk → desk_view me.desk ≡ fresh_desk worker → me.tries ≡ first_tries worker crew.workers
       → IsAtStart crew worker me

@@ -8,10 +8,10 @@ use Rattle.core_table.specs.Passes.{IsPassOf, view, pass_view, opening_view}
 use Rattle.table_rule.specs.Passes.{unused}
 
 -- it is a pass of the table, as it was made
-abbrev IsOpeningPass : CoreTable → ℕ → Pass → Type 0
+abbrev IsOpeningPass : {B : Type 0} → CoreTable B → ℕ → Pass → Type 0
 IsOpeningPass table w pass = IsPassOf table pass × (view pass ≡ opening_view table w)
 
-pub seat_at : (table : CoreTable) (passes : List Pass) (count : ℕ) → length passes ≡ count
+pub seat_at : {B : Type 0} (table : CoreTable B) (passes : List Pass) (count : ℕ) → length passes ≡ count
     → ((w : ℕ) → IfSome (slice_get passes w) (IsOpeningPass table w))
     → (w : ℕ) (pass : Pass) → w < count → pass ≡ get_or passes w pass
     → IsPassOf table pass × (pass_view pass ≡ unused w)

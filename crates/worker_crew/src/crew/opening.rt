@@ -13,6 +13,7 @@ ghost use Rattle.worker_crew.specs.Opening.{is_call, opening_hand, HaveRooms, Ar
 use crate::batch_pieces::BatchPieces;
 use crate::crew::{Crew, Me};
 use core_table::{CoreTable, Pass};
+use leaf_work::{BrandedWork, LeafWork, WorkBrand};
 use piece_board::{Board, Desk};
 use run_points::Pause;
 use seq_objects::Act;
@@ -44,7 +45,7 @@ fn count_calls(acts: &[Act]) -> u32
 /// each node of the job, and a deque of pieces `PUSHES_A_CALL` for each leaf that calls.
 ///
 /// Memory: none.
-pub fn deck_rooms(table: &CoreTable) -> Rooms
+pub fn deck_rooms<B: WorkBrand>(table: &CoreTable<B>) -> Rooms
     ensures core { result.core ≡ (job_in table.now).plan.count }
     ensures batch { result.batch ≡ PUSHES_A_CALL * count_by is_call (planned_in table.now).acts }
     ensures most { (result.core ≤ 2 * MOST_LEAVES) × (result.batch ≤ PUSHES_A_CALL * MOST_LEAVES) }
@@ -72,9 +73,9 @@ fn opening(decks: &Decks, hand: Hand) -> Result<Hand, AllocError>
 }
 
 /// The workers' initial states, indexed by worker.
-fn make_workers<G: Pause>(
+fn make_workers<G: Pause, B: WorkBrand, W: LeafWork>(
     alloc: Global,
-    crew: &Crew<G>,
+    crew: &Crew<G, B, W>,
     passes: Vec<Pass>,
     hands: Vec<Hand>,
     desks: Vec<Desk<BatchPieces>>,
@@ -102,16 +103,18 @@ fn make_workers<G: Pause>(
     Ok(mes)
 }
 
-impl<'a, G: Pause> Crew<'a, G> {
-    /// The crew of a non-empty job, and its workers, indexed by worker. Node 0 is on the deque of worker 0. Over its
-    /// lifetime, each deque of nodes is sure to take one push for each node of the job, and each deque of pieces
-    /// `PUSHES_A_CALL` for each leaf that calls.
+impl<'a, G: Pause, B: WorkBrand, W: LeafWork> Crew<'a, G, B, W> {
+    /// The crew of a non-empty job, whose leaves of work run `work`, and its workers, indexed by worker. Node 0 is on
+    /// the deque of worker 0. Over its lifetime, each deque of nodes is sure to take one push for each node of the job,
+    /// and each deque of pieces `PUSHES_A_CALL` for each leaf that calls.
     pub fn make(
         alloc: Global,
         job: &Job,
         workers: u32,
         pause: &'a G,
-    ) -> Result<(Crew<'a, G>, Vec<Me>), AllocError>
+        work: &'a W,
+    ) -> Result<(Crew<'a, G, B, W>, Vec<Me>), AllocError>
+        requires meaning { W.meaning work.now ≡ B.work }
         requires leaves { IsSome job.now.shape }
         requires some_workers { 0 < workers }
         requires few_workers { workers ≤ MOST_WORKERS }
@@ -124,10 +127,12 @@ impl<'a, G: Pause> Crew<'a, G> {
             × (batch_room_of made.0.decks ≡ PUSHES_A_CALL * count_by is_call job.now.acts)) }
         ensures start { IfOk result (λ made. AreAtStart made.0 made.1.items) }
     {
-        let (table, passes) = CoreTable::make(alloc, job, workers)?;
+        let (table, passes) = CoreTable::<B>::make(alloc, job, workers)?;
         let rooms = deck_rooms(&table);
         let (decks, hands) = Decks::make(alloc, workers, rooms.core, rooms.batch)?;
-        Crew::of(alloc, workers, table, passes, decks, hands, pause)
+        Crew::of(
+            alloc, workers, table, passes, decks, hands, pause, work,
+        )
     }
 
     /// The crew of a table and of deques that were just made, with the rooms of `deck_rooms`, and its workers, indexed
@@ -135,12 +140,14 @@ impl<'a, G: Pause> Crew<'a, G> {
     pub fn of(
         alloc: Global,
         workers: u32,
-        table: CoreTable,
+        table: CoreTable<B>,
         passes: Vec<Pass>,
         decks: Decks,
         hands: Vec<Hand>,
         pause: &'a G,
-    ) -> Result<(Crew<'a, G>, Vec<Me>), AllocError>
+        work: &'a W,
+    ) -> Result<(Crew<'a, G, B, W>, Vec<Me>), AllocError>
+        requires meaning { W.meaning work.now ≡ B.work }
         requires workers { ((job_in table).workers ≡ workers) × (0 < workers) × (workers ≤ MOST_WORKERS) }
         requires passes { AreNewPasses table workers passes.items }
         requires decks { workers_of decks ≡ workers }
@@ -159,6 +166,7 @@ impl<'a, G: Pause> Crew<'a, G> {
             board,
             workers,
             pause,
+            work: BrandedWork::of(work),
         };
         let mes = make_workers(alloc, &crew, passes, hands, desks)?;
         Ok((crew, mes))

@@ -21,6 +21,7 @@ use crate::pieces::{pop_own_piece, steal_other_piece};
 use arrayvec::ArrayVec;
 use crossbeam_utils::Backoff;
 use launch_batch::{PieceIn, PieceOut};
+use leaf_work::{LeafWork, WorkBrand};
 use limits::PLACES;
 use run_points::Pause;
 use std::alloc::Global;
@@ -33,8 +34,8 @@ const MOST_PIECES: usize = PLACES as usize;
 
 /// Posts each piece at its place in the worker's own row, and pushes its spot on the worker's own deque of pieces.
 /// Returns the places.
-fn post_all<G: Pause>(
-    crew: &Crew<G>,
+fn post_all<G: Pause, B: WorkBrand, W: LeafWork>(
+    crew: &Crew<G, B, W>,
     me: &mut Me,
     ins: Vec<PieceIn>,
 ) -> Result<ArrayVec<u32, MOST_PIECES>, Stop>
@@ -67,10 +68,10 @@ fn post_all<G: Pause>(
 }
 
 /// Runs pieces of the worker's own deque until a pop gives none.
-fn run_own<G: Pause, R: Wait>(
+fn run_own<G: Pause, B: WorkBrand, W: LeafWork, R: Wait>(
     rt: &R,
     alloc: Global,
-    crew: &Crew<G>,
+    crew: &Crew<G, B, W>,
     me: &mut Me,
 ) -> Result<(), Stop>
     requires me { IsMeOf crew.now me.old }
@@ -92,10 +93,10 @@ fn run_own<G: Pause, R: Wait>(
 
 /// Waits for the result at `place`, the first place of the worker's own row that is not free. After each look that
 /// finds no result, the worker looks at the stop word and tries to steal one piece.
-fn collect_one<G: Pause, R: Wait>(
+fn collect_one<G: Pause, B: WorkBrand, W: LeafWork, R: Wait>(
     rt: &R,
     alloc: Global,
-    crew: &Crew<G>,
+    crew: &Crew<G, B, W>,
     me: &mut Me,
     place: u32,
 ) -> Result<PieceOut, Stop>
@@ -129,10 +130,10 @@ fn collect_one<G: Pause, R: Wait>(
 }
 
 /// Collects the results of the worker's own row, in the order of `places`.
-fn collect_all<G: Pause, R: Wait>(
+fn collect_all<G: Pause, B: WorkBrand, W: LeafWork, R: Wait>(
     rt: &R,
     alloc: Global,
-    crew: &Crew<G>,
+    crew: &Crew<G, B, W>,
     me: &mut Me,
     places: &[u32],
 ) -> Result<Vec<PieceOut>, Stop>
@@ -159,10 +160,10 @@ fn collect_all<G: Pause, R: Wait>(
 }
 
 /// Hands out the pieces of a batch, helps to run them, and collects their results.
-pub(crate) fn serve_pieces<G: Pause, R: Wait>(
+pub(crate) fn serve_pieces<G: Pause, B: WorkBrand, W: LeafWork, R: Wait>(
     rt: &R,
     alloc: Global,
-    crew: &Crew<G>,
+    crew: &Crew<G, B, W>,
     me: &mut Me,
     ins: Vec<PieceIn>,
 ) -> Result<Vec<PieceOut>, Stop>

@@ -9,7 +9,7 @@ use Rattle.table_tests.specs.Tables.{HasNoFlag}
 use Rattle.table_tests.proofs.pairs.report_of_two.Goals as goal
 
 -- a pass of a new table, by its place among the two
-new_pass : (t : CoreTable) (ps : List Pass) (w : ℕ) (p : Pass) → length ps ≡ 2 → ((u : ℕ) → IfSome (slice_get ps u) (λ pass. IsPassOf t pass × (view pass ≡ opening_view t u)))
+new_pass : {B : Type 0} (t : CoreTable B) (ps : List Pass) (w : ℕ) (p : Pass) → length ps ≡ 2 → ((u : ℕ) → IfSome (slice_get ps u) (λ pass. IsPassOf t pass × (view pass ≡ opening_view t u)))
     → w < 2 → p ≡ slice_index_or ps w p → HasNoFlag t p
 new_pass t ps w p two each low is =
     let new = subst (λ o. IfSome o (λ pass. IsPassOf t pass × (view pass ≡ opening_view t w))) (slice_get_read ps 2 w p (sym two) low is) (each w) in

@@ -34,8 +34,8 @@ returns-in-End-clause-free_pass g c =
 pub returns-in-End-clause-carried : goal.returns-in-End-clause-carried
 returns-in-End-clause-carried g c = let t = c.tick-in-End.ensures.ended _ _ (c.requires.due ∙ ap Some c.in-End.is) in carried_step _ _ _ _ _ (_ ∷ []) (own_of _ _ t) refl refl
 
-pub returns-in-Spin-clause-carried : goal.returns-in-Spin-clause-carried
-returns-in-Spin-clause-carried g c = let k = c.keep.ensures.kept in carried_step _ _ _ _ _ _ (own_of _ _ k.3) refl refl
+pub returns-in_ok-worked-in-Spin-clause-carried : goal.returns-in_ok-worked-in-Spin-clause-carried
+returns-in_ok-worked-in-Spin-clause-carried g c = let k = c.keep.ensures.kept in carried_step _ _ _ _ _ _ (own_of _ _ k.3) refl refl
 
 pub returns-in_ok-make_call-in-Call-clause-carried : goal.returns-in_ok-make_call-in-Call-clause-carried
 returns-in_ok-make_call-in-Call-clause-carried g c =

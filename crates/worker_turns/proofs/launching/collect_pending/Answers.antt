@@ -5,11 +5,11 @@ use Rattle.worker_turns.proofs.launching.collect_pending.Goals.{in-Some+in_ok-pu
 use Rattle.worker_turns.proofs.launching.collect_pending.Goals as goal
 
 pub take_pending-requires-clause-next : goal.take_pending-requires-clause-next
-take_pending-requires-clause-next c =
+take_pending-requires-clause-next g c =
     next_look (pass_view c.args.pass.now) (pass_view c.loop-u.pass) c.loop-u.u c.loop-u.calls.items c.requires.won c.loop-u.invariant.looked
 
 pub loop-u-preserved : goal.loop-u-preserved
-loop-u-preserved c =
+loop-u-preserved g c =
     let i = c.loop-u.invariant in
     let first = pass_view c.args.pass.now in
     let old = pass_view c.loop-u.pass in

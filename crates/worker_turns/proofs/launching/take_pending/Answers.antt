@@ -14,10 +14,10 @@ use Rattle.worker_turns.proofs.launching.take_pending.Goals as goal
 use Rattle.std.proofs.lemmas.Option.{same_Some}
 
 pub take-requires-clause-due : goal.take-requires-clause-due
-take-requires-clause-due c = let next = c.requires.next in (next.0, next.1, (next.2, c.requires.below))
+take-requires-clause-due g c = let next = c.requires.next in (next.0, next.1, (next.2, c.requires.below))
 
 pub returns-clause-fit : goal.returns-clause-fit
-returns-clause-fit c =
+returns-clause-fit g c =
     let table = c.args.table.now in
     let hold = (pass_view c.args.pass.now).hold in
     let t = c.in_ok-call.ensures.took in
@@ -32,7 +32,7 @@ returns-clause-fit c =
     subst (Holds AreFit) (sym (ap (λ (p : PassView). p.hold) (own_of _ _ t.4) ∙ ap (in_hold take) t.1)) fit
 
 pub returns-in_err-call-clause-fit : goal.returns-in_err-call-clause-fit
-returns-in_err-call-clause-fit c =
+returns-in_err-call-clause-fit g c =
     let hold = (pass_view c.args.pass.now).hold in
     let next = c.requires.next in
     let (miss, _, now) = c.in_err-call.ensures.passed in

@@ -21,7 +21,7 @@ ghost use Rattle.worker_crew.specs.contracts.crew.Me.{the_row as me_row};
 use crate::batch_pieces::BatchPieces;
 use core_table::laws::{is_sent, is_shared, tables_go_to_threads};
 use launch_batch::{PieceIn, PieceOut};
-use leaf_work::{LeafWork, WorkBrand};
+use leaf_work::{LeafWork, Spin, WorkBrand};
 use piece_board::{Board, Desk};
 use two_deques::{DeckPair, Decks, Hand, Stealers};
 
@@ -60,16 +60,16 @@ pub fn workers_go_to_threads()
     ensures worker { IsSend me_row }
     ensures pass { IsSend pass_row }
 {
-    tables_go_to_threads();
+    tables_go_to_threads::<Spin>();
     boards_go_to_threads();
     decks_go_to_threads();
 }
 
 /// A crew can be shared between threads if its `Pause` and the work of its leaves can.
 pub fn crews_go_to_threads<G: Sync, B: WorkBrand + Send + Sync, W: LeafWork + Sync>()
-    ensures { (l : NamedLft) → IsSync (crew_row l G.row B.row W.row) }
+    ensures { (l : NamedLft) → IsSync (crew_row l G.row B.row W.row B.WorkBrand W.LeafWork) }
 {
-    tables_go_to_threads();
+    tables_go_to_threads::<B>();
     boards_go_to_threads();
     decks_go_to_threads();
 }

@@ -56,9 +56,7 @@ fn make_crew<'a, R: Threads + Sync, G: Pause, B: WorkBrand, W: LeafWork>(
     let (table, passes) = CoreTable::<B>::make(alloc, job, workers)?;
     let rooms = deck_rooms(&table);
     let (decks, hands) = make_decks(rt, alloc, workers, rooms)?;
-    Crew::of(
-        alloc, workers, table, passes, decks, hands, pause, work,
-    )
+    Crew::of(alloc, workers, table, passes, decks, hands, pause, work)
 }
 
 /// What the threads of a run over the running table share. The threads are started over any `Sync` team, so that `Sync`
@@ -124,12 +122,7 @@ fn work_as_crew<
     G: Pause + Sync,
     B: WorkBrand + Send + Sync,
     W: LeafWork + Sync,
->(
-    rt: &R,
-    alloc: Global,
-    crew: &Crew<G, B, W>,
-    mes: Vec<Me>,
-) -> Result<Vec<Pass>, AllocError>
+>(rt: &R, alloc: Global, crew: &Crew<G, B, W>, mes: Vec<Me>) -> Result<Vec<Pass>, AllocError>
     requires start { AreAtStart crew.now mes.items }
     ensures count { IfOk result (λ passes. length passes.items ≡ crew.now.workers) }
     ensures passes { IfOk result (λ passes. (w : ℕ) (pass : PassOf) → w < length passes.items
@@ -153,11 +146,7 @@ fn has_ended<B: WorkBrand>(table: &CoreTable<B>, pass: &mut Pass) -> bool
 
 /// The report of a run that came to its end. The answer is an error where a worker has set the stop word, because
 /// memory ran out there, or where the root is not done, or where memory runs out here.
-fn close<B: WorkBrand>(
-    alloc: Global,
-    table: CoreTable<B>,
-    pass: Pass,
-) -> Result<Report, AllocError>
+fn close<B: WorkBrand>(alloc: Global, table: CoreTable<B>, pass: Pass) -> Result<Report, AllocError>
     requires pass { IsPassOf table pass }
     ensures lawful { IfOk result (λ report. LawfulWith B.work (planned_in table)
         (job_in table).workers report) }
@@ -176,14 +165,7 @@ fn run_crew<
     G: Pause + Sync,
     B: WorkBrand + Send + Sync,
     W: LeafWork + Sync,
->(
-    rt: &R,
-    alloc: Global,
-    job: &Job,
-    workers: u32,
-    pause: &G,
-    work: &W,
-) -> Result<Report, AllocError>
+>(rt: &R, alloc: Global, job: &Job, workers: u32, pause: &G, work: &W) -> Result<Report, AllocError>
     requires meaning { W.meaning work.now ≡ B.work }
     requires some_workers { 0 < workers }
     requires few_workers { workers ≤ MOST_WORKERS }

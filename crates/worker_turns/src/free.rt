@@ -33,7 +33,11 @@ pub enum Did {
 }
 
 /// Tries to claim the node, if there is one.
-fn claim_found<B: WorkBrand>(table: &CoreTable<B>, pass: &mut Pass, found: Option<u32>) -> NodeAttempt
+fn claim_found<B: WorkBrand>(
+    table: &CoreTable<B>,
+    pass: &mut Pass,
+    found: Option<u32>,
+) -> NodeAttempt
     requires pass { IsPassOf table.now pass.old }
     requires free { IsFree (pass_view pass.old) }
     requires idle { (pass_view pass.old).task ≡ Idle }
@@ -52,7 +56,10 @@ fn claim_found<B: WorkBrand>(table: &CoreTable<B>, pass: &mut Pass, found: Optio
 }
 
 /// Pops the worker's own deque of nodes once, and tries to claim what it gives.
-fn pop_own_node<G: Pause, B: WorkBrand, W: LeafWork>(crew: &Crew<G, B, W>, me: &mut Me) -> NodeAttempt
+fn pop_own_node<G: Pause, B: WorkBrand, W: LeafWork>(
+    crew: &Crew<G, B, W>,
+    me: &mut Me,
+) -> NodeAttempt
     requires me { IsMeOf crew.now me.old }
     requires free { IsFree (pass_view me.old.pass) }
     requires idle { (pass_view me.old.pass).task ≡ Idle }

@@ -15,7 +15,10 @@ pub mod trapped;
 
 /// A worker of a crew meets `HasAllEnds`, a premise of laws of the turns: it has its ends of all workers' deques.
 #[tactic(auto, using(crate::proofs::MeaningLemmas::Gains::has_all_ends))]
-pub fn a_worker_has_its_ends_of_all_deques<G, B: WorkBrand, W: LeafWork>(crew: &Crew<G, B, W>, me: &Me)
+pub fn a_worker_has_its_ends_of_all_deques<G, B: WorkBrand, W: LeafWork>(
+    crew: &Crew<G, B, W>,
+    me: &Me,
+)
     requires me { IsMeOf crew.now me.now }
     ensures { HasAllEnds (me_seen me.now) }
 {}

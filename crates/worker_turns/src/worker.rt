@@ -48,7 +48,12 @@ fn turn<G: Pause, B: WorkBrand, W: LeafWork, R: Wait>(
 
 /// A worker's main loop: takes turns until the worker sees the root done, sets the stop word or finds it set. Returns
 /// its pass.
-pub fn work<G: Pause, B: WorkBrand, W: LeafWork, R: Wait>(rt: &R, alloc: Global, crew: &Crew<G, B, W>, me: Me) -> Pass
+pub fn work<G: Pause, B: WorkBrand, W: LeafWork, R: Wait>(
+    rt: &R,
+    alloc: Global,
+    crew: &Crew<G, B, W>,
+    me: Me,
+) -> Pass
     requires ready { IsReady crew.now me }
     ensures pass { IsPassOf crew.now.table result }
     ensures ended { ((view result).saw_done ≡ true) ⊎ KnowsStop (pass_view result) }

@@ -130,9 +130,7 @@ impl<'a, G: Pause, B: WorkBrand, W: LeafWork> Crew<'a, G, B, W> {
         let (table, passes) = CoreTable::<B>::make(alloc, job, workers)?;
         let rooms = deck_rooms(&table);
         let (decks, hands) = Decks::make(alloc, workers, rooms.core, rooms.batch)?;
-        Crew::of(
-            alloc, workers, table, passes, decks, hands, pause, work,
-        )
+        Crew::of(alloc, workers, table, passes, decks, hands, pause, work)
     }
 
     /// The crew of a table and of deques that were just made, with the rooms of `deck_rooms`, and its workers, indexed

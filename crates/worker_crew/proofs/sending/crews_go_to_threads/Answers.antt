@@ -9,5 +9,10 @@ use Rattle.worker_crew.proofs.sending.crews_go_to_threads.Goals as goal
 pub returns : goal.returns
 returns g c l =
     let pause = c.type_bounds.sync-G in
-    declared_sync (crew.the_type l (here.G-row g.row.G) (here.B-row g.row.B) (here.W-row g.row.W) g.B.WorkBrand g.W.LeafWork)
-    (c.tables_go_to_threads.ensures.shared, (c.decks_go_to_threads.ensures.shared, (c.boards_go_to_threads.ensures.shared, (search sendable depth 20, (search (sendable, crosses) depth 20, (search (sendable, crosses) depth 20, tt))))))
+    let work = c.type_bounds.sync-W in
+    let shared = c.type_bounds.sync-B in
+    let G = here.G-row g.row.G g.row.B g.row.W in
+    let B = here.B-row g.row.G g.row.B g.row.W in
+    let W = here.W-row g.row.G g.row.B g.row.W in
+    declared_sync (crew.the_type l G B W g.B.WorkBrand g.W.LeafWork)
+    (record { shared = c.tables_go_to_threads.ensures.shared.shared }, (c.decks_go_to_threads.ensures.shared, (c.boards_go_to_threads.ensures.shared, (search sendable depth 20, (search (sendable, crosses) depth 20, (search (sendable, crosses) depth 20, tt))))))

@@ -1,12 +1,13 @@
 -- The calls of a lawful report, batch after batch, are those of one thread.
-use Rattle.std.proofs.Common.{◌≡◌, ℕ, zero, suc, ◌+◌, ◌<◌, ◌≤◌, List, [], ◌∷◌, ◌++◌, length, map, get_or, Option, Some, None, inl, inr, refl, sym, ap, ◌∙◌, subst, arith}
+use Rattle.std.proofs.Common.{◌≡◌, ℕ, suc, ◌+◌, ◌<◌, ◌≤◌, List, [], ◌∷◌, ◌++◌, length, get_or, Option, Some, None, inl, inr, refl, sym, ap, ◌∙◌, subst, arith}
 use Rattle.std.specs.Prelude.{slice_get, Contains, IsSomeAnd}
 use Rattle.std.specs.List.{AllByRecursion}
-use Rattle.std.proofs.lemmas.List.Elements.{Contains-append_left, Contains-append_right}
+use Rattle.std.proofs.lemmas.List.Elements.{Contains-append_right}
+use Rattle.std.proofs.lemmas.List.{length-map}
+use Rattle.std.proofs.lemmas.List.FromFn.{length-range_with_len}
 use Rattle.std.proofs.lemmas.Option.{slice_get-get_or}
 use Rattle.seq_objects.specs.Objects.{value_of}
 use Rattle.seq_objects.specs.declared.op.Op.{Op}
-use Rattle.seq_objects.specs.declared.act.Act.TheVariants.{Call}
 use Rattle.seq_objects.specs.declared.reply.Reply.{Reply}
 use Rattle.seq_objects.specs.Pairs.{AllPairsByRecursion}
 use Rattle.seq_objects.proofs.Elements.{each_append, each_so}
@@ -18,12 +19,11 @@ use Rattle.batch_history.specs.declared.place.Place.{Place}
 use Rattle.batch_history.specs.declared.row.Row.{Row}
 use Rattle.batch_history.specs.declared.report.Report.{Report}
 use Rattle.batch_history.specs.Book.{flat}
-use Rattle.batch_history.specs.Lawful.{Lawful}
+use Rattle.batch_history.specs.Lawful.{HasRows, LawfulWith}
 use Rattle.batch_history.specs.Operations.{act_of, source_of, op_in, op_with, op_from, op_of}
 use Rattle.batch_history.specs.Places.{place_of}
 use Rattle.batch_history.proofs.ActLemmas.{act_at}
 use Rattle.batch_history.proofs.BookLemmas.Books.{found_in_book}
-use Rattle.batch_history.proofs.TallyLemmas.Pairs.{rows_long}
 use Rattle.serial_runs.specs.SerialRuns.{IsReplyTo, IsAsked, IsSerialRun}
 
 each_contained : {A : Type 0} (P : A → Type 0) (xs : List A) → ((x : A) → Contains xs x → P x) → AllByRecursion P xs
@@ -74,6 +74,10 @@ before_below (Some tree) u v h = let is = before_in 0 tree u v h in (omega (arit
 no_row : Row
 no_row = record { leaf = 0; worker = 0; start = 0; end = 0; value = 0 }
 
+-- there is a row for each leaf
+pub rows_fill : (job : JobValue) (workers : ℕ) (report : Report) → HasRows job workers report → length report.rows ≡ leaf_count job.shape
+rows_fill job workers report rows = sym (length-map report.rows (λ (row : Row). row.leaf)) ∙ ap length rows.leaves ∙ length-range_with_len 0 (leaf_count job.shape)
+
 -- the reply that a leaf uses is that of a call
 pub found_reply : (book : List (List Entry)) (source : ℕ) (place : Place) → place_of book source ≡ Some place → IsReplyTo (flat book) source place.entry.reply
 found_reply book source place at =
@@ -105,9 +109,10 @@ asked_from job book e (Some source) some is =
           subst (λ (s : ℕ). (reply : Reply) × IsReplyTo (flat book) s reply × (e.op ≡ with_value u.0 (value_of reply))) same u.1.1;
     }
 
-module _ (job : JobValue) (workers : ℕ) (report : Report) (lawful : Lawful job workers report) where
+-- whatever the leaves of work compute
+module _ (meaning : ℕ → ℕ) (job : JobValue) (workers : ℕ) (report : Report) (lawful : LawfulWith meaning job workers report) where
   long : length report.rows ≡ leaf_count job.shape
-  long = rows_long job workers report lawful
+  long = rows_fill job workers report lawful.rows
 
   -- of two entries, the later one is not before the first in the job
   not_before : (i j : ℕ) (a b : Entry) → i ≤ j → InBook report.history i a → InBook report.history j b → IsBefore job.shape b.leaf a.leaf → ⊥

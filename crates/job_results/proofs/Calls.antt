@@ -1,4 +1,4 @@
--- The calls of a lawful report: how many there are, and that each leaf that calls has a place.
+-- The calls of a report of a job: how many there are, and that each leaf that calls has a place.
 use Rattle.std.proofs.Common.{◌≢◌, ℕ, ◌<◌, ◌≤◌, List, [], ◌∷◌, length, map, None, arith, length-append}
 use Rattle.std.specs.List.{AllByRecursion}
 use Rattle.std.proofs.lemmas.List.{length-map}
@@ -10,7 +10,7 @@ use Rattle.seq_objects.proofs.Elements.{each_at, each_mapped, each_so}
 use Rattle.sp_order.specs.Jobs.{JobValue}
 use Rattle.sp_order.specs.Sources.{IsCallLeaf}
 use Rattle.batch_history.specs.Book.{flat, IsBatch}
-use Rattle.batch_history.specs.Lawful.{Lawful}
+use Rattle.batch_history.specs.Lawful.{HasCalls}
 use Rattle.batch_history.specs.Places.{place_of}
 use Rattle.batch_history.specs.declared.batch.Entry.{Entry}
 use Rattle.batch_history.specs.declared.report.Report.{Report}
@@ -35,15 +35,15 @@ few_batches (batch ∷ book) are =
 call_below : (acts : List Act) (leaf : ℕ) → IsCallLeaf acts leaf → leaf < length acts
 call_below acts leaf is = slice_get_within acts leaf (Call is.0) is.1
 
-module _ (job : JobValue) (workers : ℕ) (report : Report) (lawful : Lawful job workers report) where
+module _ (job : JobValue) (report : Report) (calls : HasCalls job report) where
   abbrev callers : List ℕ
   callers = map (λ (entry : Entry). entry.leaf) (flat report.history)
 
   pub few_calls : length (flat report.history) ≤ length job.acts
   few_calls =
       let below : AllByRecursion (λ leaf. leaf < length job.acts) callers =
-      each_so (IsCallLeaf job.acts) (λ leaf. leaf < length job.acts) (call_below job.acts) callers lawful.calls.leaves.only in
-      let few = length-le_from_distinct_below callers (length job.acts) (distinct_tests callers lawful.calls.leaves.distinct) (λ q. found_below (length job.acts) q callers below) in
+      each_so (IsCallLeaf job.acts) (λ leaf. leaf < length job.acts) (call_below job.acts) callers calls.leaves.only in
+      let few = length-le_from_distinct_below callers (length job.acts) (distinct_tests callers calls.leaves.distinct) (λ q. found_below (length job.acts) q callers below) in
       omega (arith, few, length-map (flat report.history) (λ (entry : Entry). entry.leaf))
 
   pub has_place : (leaf : ℕ) → IsCallLeaf job.acts leaf → place_of report.history leaf ≢ None
@@ -51,4 +51,4 @@ module _ (job : JobValue) (workers : ℕ) (report : Report) (lawful : Lawful job
       each_at (λ n. place_of report.history n ≢ None) callers leaf
       (each_mapped (λ (entry : Entry). entry.leaf) (λ (entry : Entry). place_of report.history entry.leaf ≢ None) (λ n. place_of report.history n ≢ None) (λ entry has. has)
       (flat report.history) (each_in_book report.history))
-      (lawful.calls.leaves.each leaf is)
+      (calls.leaves.each leaf is)

@@ -1,55 +1,65 @@
 //! A job that was run, and its results.
 ghost use Rattle.std.specs.Prelude.{◌≡◌, ◌<◌, ℕ, Some, IfOk, slice_get};
-ghost use Rattle.batch_history.specs.Lawful.{Lawful};
+ghost use Rattle.batch_history.specs.Lawful.{LawfulWith};
 ghost use Rattle.batch_history.specs.Places.{place_of as place_in_book};
 ghost use Rattle.batch_history.specs.Text.{report_text};
 ghost use Rattle.job_results.specs.Results.{calls_of, value_in};
-ghost use Rattle.seq_objects.specs.Spin.{spin_of};
 ghost use Rattle.seq_objects.specs.declared.act.Act.TheVariants.{Work};
 ghost use Rattle.serial_runs.specs.SerialRuns.{IsReplyTo, IsSerialRun};
 ghost use Rattle.sp_order.specs.Precedence.{leaf_count};
 ghost use Rattle.sp_order.specs.Sources.{IsCallLeaf};
 
-use batch_history::laws::lawful_reports_name_their_objects;
 use batch_history::{Place, Report, place_of, text};
 use leaf_handles::Handle;
+use leaf_work::{LeafWork, Spin};
 use seq_objects::Reply;
-use serial_runs::lawful_reports_are_serial;
+use serial_runs::lawful_reports_with_work_are_serial;
 use sp_order::Job;
+use sp_order::object_laws::{arguments_keep_objects, named_numbers_are_by_first_use};
 use std::alloc::{AllocError, Global};
 use std::marker::Model;
+use std::snapshot::Snapshot;
 
-/// A job with a lawful report of it. Contracts see a `RanValue`.
+/// A job whose leaves of work did this work, with a lawful report of it. The work itself is not kept: clauses alone name
+/// it. Contracts see a `RanValue`.
 #[derive(Drop)]
-pub struct Ran {
+pub struct RanWith<W: LeafWork> {
     job: Job,
     report: Report,
+    work: Snapshot<W>,
 }
 
-impl Model for Ran {
-    ghost use Rattle.batch_history.specs.Lawful.{Lawful};
+/// A job whose leaves of work spin, with a lawful report of it.
+pub type Ran = RanWith<Spin>;
+
+impl<W: LeafWork> Model for RanWith<W> {
+    ghost use Rattle.batch_history.specs.Lawful.{LawfulWith};
     ghost use Rattle.job_results.specs.Results.{RanValue};
     ghost use Rattle.std.specs.Coded.{codes};
     ghost use Rattle.sp_order.specs.Jobs.{coded_job};
 
-    ghost Value = { RanValue };
+    ghost Value = { RanValue W };
 
     ghost coded = { Prim.hlevel (codes, coded_job) };
 
-    ghost view = { λ r. record { job = r.job; report = r.report } };
+    ghost view = { λ r. record { job = r.job; report = r.report; work = r.work.value } };
 
-    ghost invariant = { λ r. Lawful r.job r.report.workers r.report };
+    ghost invariant = { λ r. LawfulWith (W.meaning r.work.value) r.job r.report.workers r.report };
 }
 
-impl Ran {
+impl<W: LeafWork> RanWith<W> {
     ghost use Rattle.sp_order.specs.Jobs.{IsJob};
 
-    /// The results of a job with this report. Memory: none.
-    pub fn of(job: Job, report: Report) -> Ran
-        requires { Lawful job report.workers report }
-        ensures { result ≡ record { job = job; report = report } }
+    /// The results of a job with this report, whose leaves of work did this work. Memory: none.
+    pub fn of(job: Job, report: Report, work: &W) -> RanWith<W>
+        requires { LawfulWith (W.meaning work.now) job report.workers report }
+        ensures { result ≡ record { job = job; report = report; work = work.now } }
     {
-        Ran { job, report }
+        RanWith {
+            job,
+            report,
+            work: Snapshot::of(work),
+        }
     }
 
     /// The job.
@@ -62,7 +72,8 @@ impl Ran {
     /// The report.
     pub fn report(&self) -> &Report
         ensures report { result.now ≡ self.now.report }
-        ensures lawful { Lawful self.now.job self.now.report.workers self.now.report }
+        ensures lawful { LawfulWith (W.meaning self.now.work) self.now.job self.now.report.workers
+            self.now.report }
     {
         &self.report
     }
@@ -71,7 +82,7 @@ impl Ran {
     pub fn is_serial(&self)
         ensures { IsSerialRun self.now.job (calls_of self.now) }
     {
-        lawful_reports_are_serial();
+        lawful_reports_with_work_are_serial();
         let _report = &self.report;
     }
 
@@ -79,8 +90,8 @@ impl Ran {
     pub fn value_of(&self, handle: Handle) -> u64
         requires { handle.leaf < leaf_count self.now.job.shape }
         ensures value { value_in self.now.report handle.leaf ≡ Some result }
-        ensures work { (steps : ℕ) → slice_get self.now.job.acts handle.leaf ≡ Some (Work steps)
-            → result ≡ spin_of steps }
+        ensures work { (number : ℕ) → slice_get self.now.job.acts handle.leaf ≡ Some (Work number)
+            → result ≡ W.meaning self.now.work number }
     {
         self.report.rows.list()[handle.leaf() as usize].value
     }
@@ -109,7 +120,8 @@ impl Ran {
     pub fn text(&self, alloc: Global) -> Result<Vec<u8>, AllocError>
         ensures { IfOk result (λ bytes. bytes.items ≡ report_text self.now.job.names self.now.report) }
     {
-        lawful_reports_name_their_objects();
+        named_numbers_are_by_first_use();
+        arguments_keep_objects();
         let _acts = self.job.acts();
         text(alloc, &self.job, &self.report)
     }

@@ -1,5 +1,0 @@
-use Rattle.serial_runs.proofs.SerialOrder.{found_reply}
-use Rattle.job_results.proofs.ran.Ran.reply_of.Goals as goal
-
-pub returns : goal.returns
-returns c = found_reply c.args.self.now.report.history c.args.handle.leaf c.place_of.result c.place_of.ensures

@@ -1,2 +1,5 @@
+pub mod Chunking
+pub mod Refusals
 pub mod SumJobs
 pub mod SumReplies
+pub mod TwoAdds

@@ -10,6 +10,7 @@ use Rattle.seq_objects.specs.declared.op.Op.TheVariants.{CounterAdd}
 use Rattle.seq_objects.specs.declared.reply.Reply.{Reply}
 use Rattle.seq_objects.specs.declared.reply.Reply.TheVariants as reply
 use Rattle.seq_objects.specs.Pairs.{AllPairsByRecursion, AreDistinct}
+use Rattle.seq_objects.specs.Spin.{spin_of}
 use Rattle.seq_objects.specs.Stores.{Store, opening_store, store_after}
 use Rattle.seq_objects.proofs.Elements.{each_at, each_so}
 use Rattle.sp_order.specs.Jobs.{JobValue}
@@ -73,16 +74,16 @@ last_replied n s (x ∷ xs) (suc k) e less at is op below behind distinct =
     last_replied n (sum_after s x.op x.reply) xs k e (omega (arith, less)) at is op below.1 behind.1 distinct.1
 
 -- a counter replies a number
-is_number : (store : Store) (entries : List Entry) (k : ℕ) (e : Entry) → k < length entries → get_or entries k e ≡ e → e.op ≡ CounterAdd 0 0
+pub is_number : (store : Store) (entries : List Entry) (k : ℕ) (e : Entry) (addend : ℕ) → k < length entries → get_or entries k e ≡ e → e.op ≡ CounterAdd 0 addend
     → IsLegalFrom store entries → e.reply ≡ reply.Number (number_of e.reply)
-is_number store [] k e less at op legal = absurd (omega (arith, less))
-is_number store (x ∷ xs) zero e less at op legal =
-    let op_is : x.op ≡ CounterAdd 0 0 = ap (λ (y : Entry). y.op) at ∙ op in
-    let sum_is : ℕ = (store 0).counter + 0 in
+is_number store [] k e addend less at op legal = absurd (omega (arith, less))
+is_number store (x ∷ xs) zero e addend less at op legal =
+    let op_is : x.op ≡ CounterAdd 0 addend = ap (λ (y : Entry). y.op) at ∙ op in
+    let sum_is : ℕ = (store 0).counter + addend in
     let said : x.reply ≡ reply.Number sum_is = legal.0 ∙ ap (λ o. Rattle.seq_objects.specs.Stores.store_reply store o) op_is in
     let r : e.reply ≡ reply.Number sum_is = ap (λ (y : Entry). y.reply) (sym at) ∙ said in
     r ∙ ap (λ y. reply.Number (number_of y)) (sym r)
-is_number store (x ∷ xs) (suc k) e less at op legal = is_number (store_after store x.op) xs k e (omega (arith, less)) at op legal.1
+is_number store (x ∷ xs) (suc k) e addend less at op legal = is_number (store_after store x.op) xs k e addend (omega (arith, less)) at op legal.1
 
 pairs_so : {A : Type 0} (R S : A → A → Type 0) → ((a b : A) → R a b → S a b) → (xs : List A) → AllPairsByRecursion R xs → AllPairsByRecursion S xs
 pairs_so R S f [] h = tt
@@ -94,7 +95,7 @@ pub replied_sum : (sum_is : ℕ) (job : JobValue) (last workers : ℕ) (report :
 replied_sum sum_is job last workers report given is lawful to =
     let items : List ℕ = is.numbers in
     let entries = flat report.history in
-    let run : IsSerialRun job entries = serial job workers report lawful in
+    let run : IsSerialRun job entries = serial spin_of job workers report lawful in
     let acts = acts_at job report.history entries is.plain lawful.calls.operations in
     let e = to.call in
     let own : slice_get job.acts e.leaf ≡ Some (Call e.op) = each_at (λ (e : Entry). slice_get job.acts e.leaf ≡ Some (Call e.op)) entries e acts to.made in
@@ -105,7 +106,7 @@ replied_sum sum_is job last workers report given is lawful to =
     let behind : AllPairsByRecursion (IsBehind last) entries = pairs_so (λ a b. IsBefore job.shape b.leaf a.leaf → ⊥) (IsBehind last)
     (λ a b never less at. never (subst (λ n. IsBefore job.shape b.leaf n) (sym at) (is.behind b.leaf less))) entries run.order in
     let found = last_replied last 0 entries to.made.0 e to.made.1 to.made.2 to.of_leaf op below behind run.each.distinct in
-    let number = is_number opening_store entries to.made.0 e to.made.1 to.made.2 op run.replies in
+    let number = is_number opening_store entries to.made.0 e 0 to.made.1 to.made.2 op run.replies in
     let unnamed : AreUnnamed job.acts = subst AreUnnamed (sym is.acts) (unnamed_sum items) in
     let all : last_sum 0 entries ≡ sum items = counter_is job workers report lawful is.plain unnamed ∙ ap (total added) is.acts ∙ added_sum items in
     sym to.replied ∙ number ∙ ap reply.Number (sym found ∙ all ∙ is.comes_to)

@@ -1,2 +1,5 @@
--- The jobs of the programs.
+-- The jobs of the programs, and why a program builds none. `Code` holds what only the code cites.
+pub mod Adds
 pub mod Sums
+pub mod Refusals
+pub mod Code

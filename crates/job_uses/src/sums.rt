@@ -1,7 +1,9 @@
 //! A sum in threads: each leaf adds the sum of a chunk to one counter, and the last leaf asks it.
-ghost use Rattle.std.specs.Prelude.{◌≡◌, ◌^◌, ◌<◌, ◌≤◌, IfOk, sum};
+ghost use Rattle.std.specs.Prelude.{◌≡◌, ◌+◌, ◌^◌, ◌<◌, ◌≤◌, IfErr, IfOk, length, sum};
+ghost use Rattle.std.specs.Int.{div_ceil};
+ghost use Rattle.job_uses.specs.Refusals.{IsNotBuilt};
 ghost use Rattle.job_uses.specs.Sums.{IsSumJob};
-ghost use Rattle.limits.specs.declared.TheConstants.{MOST_WORKERS};
+ghost use Rattle.limits.specs.declared.TheConstants.{MOST_LEAVES, MOST_WORKERS};
 
 use job_builder::{BuildError, Builder, Handle, Order};
 use job_results::Ran;
@@ -13,7 +15,7 @@ use std::sync::Wait;
 use std::thread::Threads;
 
 /// The sum of a chunk.
-fn sum_of(items: &[u32]) -> u32
+pub(crate) fn sum_of(items: &[u32]) -> u32
     requires { sum items.now < 2 ^ 32 }
     ensures { result ≡ sum items.now }
 {
@@ -28,7 +30,9 @@ fn sum_of(items: &[u32]) -> u32
 fn sum_job(alloc: Global, items: &[u32], width: usize) -> Result<(Job, Handle), BuildError>
     requires width { 0 < width }
     requires small { sum items.now < 2 ^ 32 }
-    ensures { IfOk result (λ made. IsSumJob (sum items.now) made.0 made.1.leaf) }
+    ensures job { IfOk result (λ made. IsSumJob (sum items.now) made.0 made.1.leaf) }
+    ensures room { IfOk result (λ _. div_ceil (length items.now) width < MOST_LEAVES) }
+    ensures cause { IfErr result (IsNotBuilt (div_ceil (length items.now) width + 1)) }
 {
     let mut job = Builder::new(alloc, 0);
     job.open(Order::Parallel)?;
@@ -55,7 +59,8 @@ fn last_sum(ran: &Ran, last: Handle, items: &[u32]) -> u64
     }
 }
 
-/// The sum of the items, of which each leaf adds `width`, in as many threads as there are workers.
+/// The sum of the items, of which each leaf adds `width`, in as many threads as there are workers. The job has a leaf for
+/// each chunk, and one that asks the counter.
 pub fn sum_in_threads<R: Threads + Wait + Sync>(
     rt: &R,
     alloc: Global,
@@ -67,7 +72,9 @@ pub fn sum_in_threads<R: Threads + Wait + Sync>(
     requires small { sum items.now < 2 ^ 32 }
     requires some_workers { 0 < workers }
     requires few_workers { workers ≤ MOST_WORKERS }
-    ensures { IfOk result (λ total. total ≡ sum items.now) }
+    ensures room { IfOk result (λ _. div_ceil (length items.now) width < MOST_LEAVES) }
+    ensures cause { IfErr result (IsNotBuilt (div_ceil (length items.now) width + 1)) }
+    ensures total { IfOk result (λ total. total ≡ sum items.now) }
 {
     let (job, last) = sum_job(alloc, items, width)?;
     let ran = run_in_threads(rt, alloc, job, workers)?;

@@ -1,7 +1,7 @@
 //! Each program, run once.
 ghost use Rattle.std.specs.Prelude.{◌≡◌, ◌<◌, ◌≤◌};
 
-use crate::{grid_job, sum_in_threads, ticket_job};
+use crate::{grid_job, sum_in_threads, ticket_job, two_adds_in_threads};
 use job_builder::{BuildError, Builder, Order};
 use job_runs::run_by_turns;
 use seq_objects::{Op, Reply};
@@ -14,6 +14,15 @@ fn chunks_are_added_up(rt: HostRuntime) -> Result<(), Fail> {
         panic!(rt; "no memory")
     };
     assert!(rt; sum == 31);
+    Ok(())
+}
+
+#[test]
+fn two_additions_are_told_their_sums(rt: HostRuntime) -> Result<(), Fail> {
+    let Ok(sums) = two_adds_in_threads(&rt, rt.alloc(), 7, 5, 2) else {
+        panic!(rt; "no memory")
+    };
+    assert!(rt; sums == (7, 12) || sums == (12, 5));
     Ok(())
 }
 

@@ -1,0 +1,2 @@
+-- Drafts to which the programs add leaves.
+pub mod Growth

@@ -1,4 +1,5 @@
 pub mod Chunking
+pub mod ChunkSums
 pub mod Refusals
 pub mod SumJobs
 pub mod SumReplies

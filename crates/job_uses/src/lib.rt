@@ -1,10 +1,12 @@
 //! Programs over jobs that are built in code, to copy from. Each has its theorem in its contract.
 //!
-//! `adds` makes two additions in threads. `sums` adds the items of a slice on one counter, chunk by chunk, in threads.
-//! `tickets` has customers who draw a ticket each and wait with it in a queue. `grids` builds a large job in loops.
+//! `adds` makes two additions in threads. `sums` adds the items of a slice on one counter, chunk by chunk, in threads;
+//! in `chunks` each leaf adds up a chunk by itself. `tickets` has customers who draw a ticket each and wait with it in a
+//! queue. `grids` builds a large job in loops.
 #![tactic(auto)]
 
 pub mod adds;
+pub mod chunks;
 pub mod grids;
 pub mod sums;
 #[cfg(test)]
@@ -12,6 +14,7 @@ mod tests;
 pub mod tickets;
 
 pub use adds::two_adds_in_threads;
+pub use chunks::chunks_in_threads;
 pub use grids::grid_job;
 pub use sums::sum_in_threads;
 pub use tickets::{Service, ticket_job};

@@ -1,7 +1,7 @@
 //! Each program, run once.
 ghost use Rattle.std.specs.Prelude.{◌≡◌, ◌<◌, ◌≤◌};
 
-use crate::{grid_job, sum_in_threads, ticket_job, two_adds_in_threads};
+use crate::{chunks_in_threads, grid_job, sum_in_threads, ticket_job, two_adds_in_threads};
 use job_builder::{BuildError, Builder, Order};
 use job_runs::run_by_turns;
 use seq_objects::{Op, Reply};
@@ -11,6 +11,16 @@ use std::test::Fail;
 fn chunks_are_added_up(rt: HostRuntime) -> Result<(), Fail> {
     let items = [3u32, 1, 4, 1, 5, 9, 2, 6];
     let Ok(sum) = sum_in_threads(&rt, rt.alloc(), &items, 3, 3) else {
+        panic!(rt; "no memory")
+    };
+    assert!(rt; sum == 31);
+    Ok(())
+}
+
+#[test]
+fn chunks_are_added_up_by_their_leaves(rt: HostRuntime) -> Result<(), Fail> {
+    let items = [3u32, 1, 4, 1, 5, 9, 2, 6];
+    let Ok(sum) = chunks_in_threads(&rt, rt.alloc(), &items, 3, 3) else {
         panic!(rt; "no memory")
     };
     assert!(rt; sum == 31);

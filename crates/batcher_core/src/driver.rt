@@ -37,8 +37,7 @@ fn take_turn<B: WorkBrand, W: LeafWork>(
     if core.is_certainly_idle(worker) {
         return Ok(false);
     }
-    let value = core.do_due(worker, work)?;
-    core.advance(worker, value)?;
+    core.advance(worker, work)?;
     Ok(core.is_over())
 }
 

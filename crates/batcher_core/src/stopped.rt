@@ -42,8 +42,7 @@ fn try_turn(core: &mut Core, worker: u32) -> Result<bool, AllocError>
     if core.is_certainly_idle(worker) {
         return Ok(false);
     }
-    let value = core.do_due(worker, &Spin)?;
-    match core.advance(worker, value)? {
+    match core.advance(worker, &Spin)? {
         Turn::Moved => Ok(true),
         _ => Ok(false),
     }

@@ -1,2 +1,3 @@
 pub mod KeptParts
 pub mod CoreFits
+pub mod Reads

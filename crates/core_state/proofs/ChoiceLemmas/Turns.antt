@@ -1,5 +1,5 @@
 -- What a worker that is not the flag's owner chooses, and the work that it has due, by what the code reads of it.
-use Rattle.std.proofs.Common.{ℕ, ◌≡◌, ◌≢◌, ◌<◌, Option, Some, None, List, [], ◌∷◌, get_or, refl, sym, ◌∙◌, ap}
+use Rattle.std.proofs.Common.{ℕ, ◌≡◌, ◌≢◌, ◌<◌, Option, None, List, [], ◌∷◌, get_or, refl, sym, ◌∙◌, ap}
 use Rattle.core_model.proofs.Words.{CoreJob}
 use Rattle.core_model.proofs.ChoiceLemmas.Tasks.{choice_is_next}
 use Rattle.core_model.specs.Choice.{choice_by, choice_free, choice_idle, event_if}
@@ -11,7 +11,7 @@ use Rattle.core_state.specs.Abstraction.{core_state_of, ready_of, state_of}
 use Rattle.core_state.specs.Code.Lookups.{claim_choice}
 use Rattle.core_state.specs.Code.Representation.{Represents}
 use Rattle.core_state.specs.Outcomes.{choice_in, due_in}
-use Rattle.core_state.specs.WorkDue.{steps_of, work_due}
+use Rattle.core_state.specs.WorkDue.{steps_of}
 use Rattle.core_state.specs.Words.{CallState, Event, Status, Free, Task, Idle}
 use Rattle.core_state.specs.declared.state.State.{State as StoredState}
 use Rattle.core_state.proofs.ChoiceLemmas.Work.{trapped_no_work}

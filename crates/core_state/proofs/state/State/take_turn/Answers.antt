@@ -1,4 +1,4 @@
-use Rattle.std.proofs.Common.{◌≡◌, Some, refl, sym, ◌∙◌, ap}
+use Rattle.std.proofs.Common.{◌≡◌, Some, sym, ◌∙◌, ap}
 use Rattle.core_model.specs.Settings.{job_with}
 use Rattle.core_state.specs.Holds.{hold_view}
 use Rattle.core_state.proofs.ChoiceLemmas.Owners.{hold_read, owner_chooses, others_choose}

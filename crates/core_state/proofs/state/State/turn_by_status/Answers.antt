@@ -1,7 +1,7 @@
 use Rattle.std.proofs.Common.{refl, sym, ◌∙◌, ap}
 use Rattle.core_model.specs.Choice.{choice_by}
 use Rattle.core_model.specs.Settings.{job_with}
-use Rattle.core_state.specs.Abstraction.{core_state_of, state_of}
+use Rattle.core_state.specs.Abstraction.{core_state_of}
 use Rattle.core_state.proofs.ChoiceLemmas.Turns.{by_status, waits_no_work}
 use Rattle.core_state.proofs.state.State.turn_by_status.Goals as goal
 

@@ -1,7 +1,7 @@
 use Rattle.std.proofs.Common.{refl, ◌∙◌}
 use Rattle.worker_turns.proofs.PieceLemmas.Working.{works_none, works_more, own_works, own_core}
 use Rattle.worker_crew.specs.Workers.{me_seen}
-use Rattle.worker_turns.proofs.PieceLemmas.Handing.{pops_none, pops_more, pops_end, waits_none, own_waits}
+use Rattle.worker_turns.proofs.PieceLemmas.Handing.{pops_none, pops_more, waits_none, own_waits}
 use Rattle.worker_turns.proofs.pieces.serving.run_own.Goals as goal
 
 pub loop-init : goal.loop-init

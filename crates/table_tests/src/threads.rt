@@ -38,7 +38,7 @@ fn try_in_threads<R: Threads + Sync>(
 ) -> Result<Vec<bool>, AllocError>
     requires passes { AreUnused table.now passes.items }
 {
-    tables_go_to_threads();
+    tables_go_to_threads::<Spin>();
     thread::map_vec(rt, passes, &|pass: Pass| tries(table, pass))
 }
 

@@ -10,6 +10,7 @@ use std::test::Fail;
 use worker_loop::run_table_with;
 
 /// Each leaf looks up the number at its own place.
+#[derive(Drop)]
 struct Lookup {
     numbers: Vec<u32>,
 }

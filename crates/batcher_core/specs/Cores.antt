@@ -6,8 +6,6 @@ use Rattle.core_model.specs.State.{CoreJob, CoreState, core_job_with}
 use Rattle.core_model.specs.Tasks.{is_done}
 use Rattle.core_state.specs.WorkDue.{work_due}
 use Rattle.core_model.specs.declared.event.Event.{Event}
-use Rattle.core_state.specs.declared.outcome.Outcome.{Outcome}
-use Rattle.core_state.specs.declared.outcome.Outcome.TheVariants as outcomes
 use Rattle.core_state.specs.declared.state.State.{State as StoredState}
 use Rattle.batcher_core.specs.declared.turn.Turn.{Turn}
 use Rattle.batcher_core.specs.declared.turn.Turn.TheVariants.{Idle, Moved, Spin}
@@ -51,12 +49,6 @@ abbrev pub turn_answer : Option ℕ → Option ℕ → Option Event → Turn
 turn_answer None spun chosen = moved_if chosen
 turn_answer (Some steps) None chosen = Spin steps
 turn_answer (Some steps) (Some spun) chosen = moved_if chosen
-
--- the result of a turn up to the work that is due, which is asked for
-abbrev pub turn_of : Outcome → Turn
-turn_of outcomes.Idle = Idle
-turn_of outcomes.Moved = Moved
-turn_of (outcomes.Due node start steps) = Spin steps
 
 -- The effect of a turn with this result: `Moved` means that the chosen event happened. Otherwise nothing changed, and
 -- `Idle` also means that no event of this worker can happen.

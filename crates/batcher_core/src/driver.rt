@@ -37,7 +37,8 @@ fn take_turn<B: WorkBrand, W: LeafWork>(
     if core.is_certainly_idle(worker) {
         return Ok(false);
     }
-    core.advance(worker, work)?;
+    let value = core.do_due(worker, work)?;
+    core.advance(worker, value)?;
     Ok(core.is_over())
 }
 

@@ -10,21 +10,19 @@ ghost use Rattle.core_model.specs.LeafSources.{HasSources};
 ghost use Rattle.core_model.specs.Reports.{IsReportOf, IsRowOf};
 ghost use Rattle.std.specs.List.{AllByRecursion, range_with_len};
 ghost use Rattle.limits.specs.declared.TheConstants.{MOST_WORKERS};
-ghost use Rattle.batcher_core.specs.Cores.{job_in_with, state_in, due_in, moved_if, turn_answer, turn_of, is_over_in, IsTurnResult};
+ghost use Rattle.batcher_core.specs.Cores.{job_in_with, state_in, due_in, moved_if, turn_answer, is_over_in, IsTurnResult};
 ghost use Rattle.core_state.specs.Code.Representation.{RepInvariant};
-ghost use Rattle.core_state.specs.Outcomes.{IsOutcome};
-ghost use Rattle.core_state.specs.Words.{Keep};
-ghost use Rattle.batcher_core.specs.declared.turn.Turn.TheVariants.{Moved};
+ghost use Rattle.core_state.specs.WorkDue.{IsValueOf};
 ghost use Rattle.batcher_core.specs.Doings.{doing_in};
 
 use crate::report::rows_of;
 use crate::spun::SpunWith;
 use crate::turn::Turn;
 use batch_history::{History, Report, Row, Rows};
-use core_model::Setting;
 use core_model::laws::book::job_has_its_sources;
 use core_model::laws::report::{done_leaves_have_run, done_report_is_lawful};
-use core_state::{Doing, Outcome, State, history_of};
+use core_model::{Event, Setting};
+use core_state::{Doing, State, history_of};
 use leaf_work::{LeafWork, Spin, WorkBrand};
 use sp_order::Job;
 use sp_order::laws::{plan_has_sides, plan_stands_for_tree};
@@ -67,6 +65,17 @@ impl<B: WorkBrand> Model for CoreWith<B> {
     ghost invariant = { λ c. (0 < c.setting.workers) × (c.spent ≡ false → Represents B.work c.setting c.table) };
 }
 
+/// The value of the given work, if there is any.
+fn value_of<B: WorkBrand>(spun: &Option<SpunWith<B>>) -> Option<u64>
+    ensures none { spun.now ≡ None → result ≡ None }
+    ensures some { IfSome spun.now (λ s. result ≡ Some (B.work s)) }
+{
+    match spun {
+        None => None,
+        Some(spun) => Some(spun.value()),
+    }
+}
+
 impl<B: WorkBrand> CoreWith<B> {
     /// The core of a job with leaves, in the opening state.
     ///
@@ -94,6 +103,46 @@ impl<B: WorkBrand> CoreWith<B> {
         })
     }
 
+    /// The steps of work that a worker has due: those of a working leaf that it has started.
+    fn due(&self, worker: u32) -> Option<u32>
+        requires unspent { self.now.spent ≡ false }
+        requires worker_in { worker < self.now.workers }
+        ensures { result ≡ due_in self.now worker }
+    {
+        self.table.work_due(&self.setting, worker)
+    }
+
+    /// The value of the work that a worker has due, if it has some. The work is done here, by `work`.
+    #[inline(always)]
+    pub(crate) fn do_due<W: LeafWork>(
+        &self,
+        worker: u32,
+        work: &W,
+    ) -> Result<Option<u64>, AllocError>
+        requires worker_in { worker < self.now.workers }
+        requires meaning { W.meaning work.now ≡ B.work }
+        ensures { IfOk result (λ value. IsValueOf B.work (due_in self.now worker) value) }
+    {
+        if self.spent {
+            return Err(AllocError);
+        }
+        match self.due(worker) {
+            Some(steps) => Ok(Some(u64::from(work.run(self.alloc, steps)?))),
+            None => Ok(None),
+        }
+    }
+
+    /// The event of a worker's next turn, if it has one. `work` is the value of the work that is due, if some is.
+    #[inline(always)]
+    fn choice(&self, worker: u32, work: Option<u64>) -> Option<Event>
+        requires unspent { self.now.spent ≡ false }
+        requires worker_in { worker < self.now.workers }
+        requires work { IsValueOf B.work (due_in self.now worker) work }
+        ensures { result ≡ choice (job_in_with B.work self.now) (state_in self.now) worker }
+    {
+        self.table.choose::<B>(&self.setting, worker, work)
+    }
+
     /// Cheap check: true implies that the worker has no event; false says nothing.
     ///
     /// Memory: none.
@@ -107,82 +156,11 @@ impl<B: WorkBrand> CoreWith<B> {
         !self.spent && self.table.is_certainly_idle::<B>(&self.setting, worker)
     }
 
-    /// A worker's turn, but for work that is due.
+    /// Performs the event of a worker's turn, if it has one. `work` is the value of the work that is due, if some is.
     #[inline(always)]
-    fn step(&mut self, worker: u32) -> Result<Outcome, AllocError>
+    pub(crate) fn advance(&mut self, worker: u32, work: Option<u64>) -> Result<Turn, AllocError>
         requires worker_in { worker < self.old.workers }
-        ensures outcome { IfOk result
-            (λ outcome. IsOutcome (job_in_with B.work self.old) self.old.table worker outcome self.new.table) }
-        ensures turn { IfOk result (λ outcome. IsTurnResult (turn_of outcome) (job_in_with B.work self.old)
-            (state_in self.old) worker (state_in self.new)) }
-        ensures failed { IfErr result (λ _. self.new.spent ≡ true) }
-        ensures spent { IfOk result (λ _. (self.old.spent ≡ false) × (self.new.spent ≡ false)) }
-        ensures job { (self.new.job ≡ self.old.job)
-            × (self.new.workers ≡ self.old.workers) }
-    {
-        if self.spent {
-            return Err(AllocError);
-        }
-        match self.table.take_turn::<B>(self.alloc, &self.setting, worker) {
-            Ok(outcome) => Ok(outcome),
-            Err(error) => {
-                self.spent = true;
-                Err(error)
-            }
-        }
-    }
-
-    /// Keeps the value of the work that a worker has due, which is the event of its turn.
-    fn keep(&mut self, worker: u32, node: u32, start: u64, value: u64)
-        requires unspent { self.old.spent ≡ false }
-        requires worker_in { worker < self.old.workers }
-        requires chosen { choice (job_in_with B.work self.old) (state_in self.old) worker
-            ≡ Some (Keep node start value) }
-        ensures event { IsTurnResult Moved (job_in_with B.work self.old) (state_in self.old) worker (state_in self.new) }
-        ensures unspent { self.new.spent ≡ false }
-        ensures job { (self.new.job ≡ self.old.job)
-            × (self.new.workers ≡ self.old.workers) }
-    {
-        self.table.keep(worker, node, start, value);
-    }
-
-    /// Does the work that a worker has due, by `work`, and keeps its value. `inline(never)` keeps it out of the turns
-    /// without work.
-    #[inline(never)]
-    fn do_due<W: LeafWork>(
-        &mut self,
-        work: &W,
-        worker: u32,
-        node: u32,
-        start: u64,
-        steps: u32,
-    ) -> Result<Turn, AllocError>
-        requires meaning { W.meaning work.now ≡ B.work }
-        requires unspent { self.old.spent ≡ false }
-        requires worker_in { worker < self.old.workers }
-        requires chosen { choice (job_in_with B.work self.old) (state_in self.old) worker
-            ≡ Some (Keep node start (B.work steps)) }
-        ensures turn { IfOk result (λ t. t ≡ Moved) }
-        ensures event { IfOk result
-            (λ t. IsTurnResult t (job_in_with B.work self.old) (state_in self.old) worker (state_in self.new)) }
-        ensures failed { IfErr result (λ _. self.new.spent ≡ true) }
-        ensures spent { IfOk result (λ _. self.new.spent ≡ false) }
-        ensures job { (self.new.job ≡ self.old.job)
-            × (self.new.workers ≡ self.old.workers) }
-    {
-        let Ok(value) = work.run(self.alloc, steps) else {
-            self.spent = true;
-            return Err(AllocError);
-        };
-        self.keep(worker, node, start, u64::from(value));
-        Ok(Turn::Moved)
-    }
-
-    /// One turn of a worker. Work that is due is done within the turn, by `work`.
-    #[inline(always)]
-    pub(crate) fn advance<W: LeafWork>(&mut self, worker: u32, work: &W) -> Result<Turn, AllocError>
-        requires worker_in { worker < self.old.workers }
-        requires meaning { W.meaning work.now ≡ B.work }
+        requires work { IsValueOf B.work (due_in self.old worker) work }
         ensures turn { IfOk result
             (λ t. t ≡ moved_if (choice (job_in_with B.work self.old) (state_in self.old) worker)) }
         ensures event { IfOk result
@@ -192,10 +170,21 @@ impl<B: WorkBrand> CoreWith<B> {
         ensures job { (self.new.job ≡ self.old.job)
             × (self.new.workers ≡ self.old.workers) }
     {
-        match self.step(worker)? {
-            Outcome::Idle => Ok(Turn::Idle),
-            Outcome::Moved => Ok(Turn::Moved),
-            Outcome::Due { node, start, steps } => self.do_due(work, worker, node, start, steps),
+        if self.spent {
+            return Err(AllocError);
+        }
+        let Some(event) = self.choice(worker, work) else {
+            return Ok(Turn::Idle);
+        };
+        match self
+            .table
+            .apply::<B>(self.alloc, &self.setting, worker, event)
+        {
+            Ok(()) => Ok(Turn::Moved),
+            Err(error) => {
+                self.spent = true;
+                Err(error)
+            }
         }
     }
 
@@ -218,17 +207,15 @@ impl<B: WorkBrand> CoreWith<B> {
         ensures job { (self.new.job ≡ self.old.job)
             × (self.new.workers ≡ self.old.workers) }
     {
-        match self.step(worker)? {
-            Outcome::Idle => Ok(Turn::Idle),
-            Outcome::Moved => Ok(Turn::Moved),
-            Outcome::Due { node, start, steps } => match spun {
-                None => Ok(Turn::Spin(steps)),
-                Some(spun) => {
-                    self.keep(worker, node, start, spun.value());
-                    Ok(Turn::Moved)
-                }
-            },
+        if self.spent {
+            return Err(AllocError);
         }
+        if let Some(steps) = self.due(worker) {
+            if spun.is_none() {
+                return Ok(Turn::Spin(steps));
+            }
+        }
+        self.advance(worker, value_of(&spun))
     }
 
     /// A worker's ready nodes, oldest first. A number that is no worker's has none.

@@ -42,7 +42,8 @@ fn try_turn(core: &mut Core, worker: u32) -> Result<bool, AllocError>
     if core.is_certainly_idle(worker) {
         return Ok(false);
     }
-    match core.advance(worker, &Spin)? {
+    let value = core.do_due(worker, &Spin)?;
+    match core.advance(worker, value)? {
         Turn::Moved => Ok(true),
         _ => Ok(false),
     }

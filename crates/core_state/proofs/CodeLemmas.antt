@@ -1,3 +1,2 @@
 pub mod KeptParts
 pub mod CoreFits
-pub mod Reads

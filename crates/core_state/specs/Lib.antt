@@ -1,10 +1,9 @@
--- The refinement mapping from stored states to the model, the work that is due, what a turn comes to, and what a worker
--- is doing. `Code` is cited by code and proofs only.
+-- The refinement mapping from stored states to the model, the work that is due, and what a worker is doing. `Code` is
+-- cited by code and proofs only.
 pub mod Words
 pub mod Places
 pub mod Holds
 pub mod Abstraction
 pub mod WorkDue
-pub mod Outcomes
 pub mod Doings
 pub mod Code

@@ -1,5 +1,5 @@
 -- A turn preserves the core's invariant, and its result states its effect.
-use Rattle.std.proofs.Common.{ℕ, ◌≡◌, ◌<◌, Some, None, ap, refl, sym, subst, ◌∙◌}
+use Rattle.std.proofs.Common.{ℕ, ◌≡◌, ◌<◌, Some, None, refl, ◌∙◌}
 use Rattle.sp_order.specs.Jobs.{JobValue, job_tree}
 use Rattle.core_model.proofs.Words.{core_job_with}
 use Rattle.core_state.specs.Words.{Event}
@@ -12,10 +12,7 @@ use Rattle.core_model.specs.Choice.{choice}
 use Rattle.core_state.specs.Abstraction.{state_of, ready_of, core_state_of}
 use Rattle.core_state.specs.Code.Sizes.{Sizes, SameSizes}
 use Rattle.core_state.specs.Code.Representation.{RepInvariant}
-use Rattle.core_state.specs.Outcomes.{IsOutcome}
-use Rattle.core_state.specs.declared.outcome.Outcome.{Outcome}
-use Rattle.core_state.specs.declared.outcome.Outcome.TheVariants as outcomes
-use Rattle.batcher_core.specs.Cores.{IsTurnResult, turn_of}
+use Rattle.batcher_core.specs.Cores.{IsTurnResult}
 use Rattle.core_model.proofs.ChoiceLemmas.Choices.{none_has_no_event}
 use Rattle.core_state.proofs.ChoiceLemmas.Allowed.{chosen_needs}
 use Rattle.core_model.proofs.Inductive.FromParts.{event_keeps_all}
@@ -67,17 +64,3 @@ pub makes_none : {work : ℕ → ℕ} (job : JobValue) (workers : ℕ) (old : St
     → IsTurnResult Idle (core_job_with work job workers) (core_state_of old) w (core_state_of old)
 makes_none {work} job workers old w h below none =
     (refl, λ event next is. none_has_no_event (core_job_with work job workers) (core_state_of old) w h.laws below (kept_parts job workers old h) h.inv.lists none event is.happens.needs)
-
--- a turn up to the work that is due keeps the invariant
-pub outcome_fits : {work : ℕ → ℕ} (job : JobValue) (workers : ℕ) (old new : StoredState) (w : ℕ) (o : Outcome) → RepInvariant work job workers old → w < workers
-    → IsOutcome (core_job_with work job workers) old w o new → RepInvariant work job workers new
-outcome_fits {work} job workers old new w outcomes.Idle h below is = subst (RepInvariant work job workers) (sym is.0) h
-outcome_fits {work} job workers old new w outcomes.Moved h below is = fits_after job workers old new w is.event h below is.chosen is.does is.lists is.sizes
-outcome_fits {work} job workers old new w (outcomes.Due n start steps) h below is = subst (RepInvariant work job workers) (sym is.0) h
-
--- and what it came to states its effect
-pub outcome_turn : {work : ℕ → ℕ} (job : JobValue) (workers : ℕ) (old new : StoredState) (w : ℕ) (o : Outcome) → RepInvariant work job workers old → w < workers
-    → IsOutcome (core_job_with work job workers) old w o new → IsTurnResult (turn_of o) (core_job_with work job workers) (core_state_of old) w (core_state_of new)
-outcome_turn {work} job workers old new w outcomes.Idle h below is = rw is.0 (makes_none job workers old w h below is.1)
-outcome_turn {work} job workers old new w outcomes.Moved h below is = makes_event job workers old new w is.event h below is.chosen is.does is.lists
-outcome_turn {work} job workers old new w (outcomes.Due n start steps) h below is = ap core_state_of is.0

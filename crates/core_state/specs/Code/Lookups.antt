@@ -6,6 +6,7 @@ use Rattle.core_model.specs.Settings.{HasLeaf, TaskIn, job_of}
 use Rattle.core_state.specs.Code.Sizes.{HasShop, Sizes}
 use Rattle.core_model.specs.Invariant.Statuses.{is_taken_by}
 use Rattle.core_model.specs.Operations.{IsLeaf}
+use Rattle.core_state.specs.WorkDue.{IsValueOf, work_due}
 use Rattle.core_model.specs.declared.event.Event.{Event}
 use Rattle.core_model.specs.declared.event.Event.TheVariants.{Claim}
 use Rattle.core_model.specs.declared.setting.Setting.{Setting}
@@ -33,3 +34,7 @@ pub record CanChoose (setting : Setting) (t : StoredState) : Type 0 where
 abbrev pub claim_choice : ℕ → (ℕ → List ℕ) → ℕ → List ℕ → Option Event
 claim_choice workers ready w [] = choice_steal ready workers (w + 1) (workers - 1)
 claim_choice workers ready w (n ∷ ns) = Some (Claim (last_of n ns))
+
+-- if the worker has work due, this is its value, where the leaves of work compute `work`
+abbrev pub IsWorkOf : (ℕ → ℕ) → Setting → StoredState → ℕ → Option ℕ → Type 0
+IsWorkOf work setting t w value = IsValueOf work (work_due (job_of setting) ((state_of t).task w) ((state_of t).call w)) value

@@ -88,7 +88,7 @@ impl State {
 
     /// `Keep`: the leaf's value is stored, and the worker's call state is reset.
     #[tactic(auto, using(ready_lists::proofs::PlaceLemmas::Written::at_written), unfolding(crate::specs::Abstraction::state_of, crate::specs::Abstraction::ready_of))]
-    pub fn keep(&mut self, worker: u32, node: u32, start: u64, value: u64)
+    pub(crate) fn keep(&mut self, worker: u32, node: u32, start: u64, value: u64)
         requires worker_in { worker < length self.old.tasks.items }
         requires call_in { worker < length self.old.calls.items }
         requires node_in { node < length self.old.values.items }

@@ -1,13 +1,27 @@
-//! The choice of a worker that claims a node, and the event of a side that arrives.
-ghost use Rattle.std.specs.Prelude.{◌≡◌, ◌<◌, ◌≤◌, ℕ, None, IsTrue};
+//! The choice of a worker that claims a node, the event of a next act, and the work that is due.
+ghost use Rattle.std.specs.Prelude.{◌≡◌, ◌<◌, ◌≤◌, None, Some, IsSome, IsTrue};
 ghost use Rattle.limits.specs.declared.TheConstants.{MOST_WORKERS};
 ghost use Rattle.core_model.specs.Next.{event_of};
-ghost use Rattle.core_model.specs.declared.next.Next.TheVariants.{Arrive};
+ghost use Rattle.core_model.specs.Settings.{job_of};
 ghost use Rattle.core_state.specs.Abstraction.{state_of, ready_of};
-ghost use Rattle.core_state.specs.Code.Lookups.{claim_choice};
+ghost use Rattle.core_state.specs.Code.Lookups.{CanChoose, claim_choice};
+ghost use Rattle.core_state.specs.WorkDue.{steps_of, work_due, IsValueOf};
 
 use crate::state::State;
-use core_model::Event;
+use core_model::{Event, Next, Setting};
+use leaf_work::WorkBrand;
+use seq_objects::value;
+
+/// The value of the work that is due, which must be given.
+fn given(work: Option<u64>) -> u64
+    requires { IsSome work }
+    ensures { work ≡ Some result }
+{
+    match work {
+        Some(value) => value,
+        None => unreachable!(),
+    }
+}
 
 impl State {
     /// The event of an idle worker: it claims the newest node of its own list, or else steals the oldest node of the
@@ -55,26 +69,65 @@ impl State {
         }
     }
 
-    /// The event of `side`, which arrives at its parallel block: that of its first or its second side.
+    /// The event that an act is. `work` is the value of the work that the act asks for, if it asks for some.
     #[inline(always)]
-    pub(crate) fn arrival(&self, parent: u32, left: u32, right: u32, side: u32) -> Event
-        ensures { (work : ℕ → ℕ)
-            → result ≡ event_of work (state_of self.now).mark (Arrive parent left right side) }
+    pub(crate) fn event_of<B: WorkBrand>(&self, act: Next, work: Option<u64>) -> Event
+        requires { IsValueOf B.work (steps_of (Some act)) work }
+        ensures { result ≡ event_of B.work (state_of self.now).mark act }
     {
-        if self.mark_of(parent) == 0 {
-            Event::ArriveFirst {
+        match act {
+            Next::Start { node, .. } => Event::Start(node),
+            Next::Open { event, .. } => event,
+            Next::Spin { node, start, .. } => Event::Keep {
+                node,
+                start,
+                value: given(work),
+            },
+            Next::Call { node, start, .. } => Event::Post { node, start },
+            Next::Got { node, start, reply } => Event::Keep {
+                node,
+                start,
+                value: value(reply),
+            },
+            Next::End { node, start } => Event::End { node, start },
+            Next::Finish { event, .. } => event,
+            Next::Arrive {
                 parent,
                 left,
                 right,
                 side,
+            } => {
+                if self.mark_of(parent) == 0 {
+                    Event::ArriveFirst {
+                        parent,
+                        left,
+                        right,
+                        side,
+                    }
+                } else {
+                    Event::ArriveSecond {
+                        parent,
+                        left,
+                        right,
+                        side,
+                    }
+                }
             }
-        } else {
-            Event::ArriveSecond {
-                parent,
-                left,
-                right,
-                side,
-            }
+        }
+    }
+
+    /// The steps of the leaf that the worker has started, if that leaf works rather than calls.
+    #[tactic(auto, unfolding(crate::specs::Abstraction::state_of))]
+    pub fn work_due(&self, setting: &Setting, worker: u32) -> Option<u32>
+        requires looks { CanChoose setting.now self.now }
+        requires worker_in { worker < setting.now.workers }
+        ensures { result
+            ≡ work_due (job_of setting.now) ((state_of self.now).task worker)
+            ((state_of self.now).call worker) }
+    {
+        match setting.next(self.tasks[worker as usize], self.calls[worker as usize]) {
+            Some(Next::Spin { steps, .. }) => Some(steps),
+            _ => None,
         }
     }
 }

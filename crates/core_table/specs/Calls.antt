@@ -37,8 +37,9 @@ pub record IsViewOf (key : Setting) (k : ℕ) (v : View) : Type 0 where
   pub job : job_seen v ≡ job_of key
   pub task : TaskHere (job_of key).plan v.own.task
 
--- A table has `slots` slots, and seat `id` has the view v of worker k and carries the slots xs. The leaves of work compute `work`. Each field says of one
--- call what its step writes, what it tells the seat, and which event or stutter it makes of any state shown before.
+-- A table has `slots` slots, and seat `id` has the view v of worker k and carries the slots xs. The leaves of work compute
+-- `work`. Each field says of one call what its step writes, what it tells the seat, and which event or stutter it makes of
+-- any state shown before.
 pub record EachCallRefines (work : ℕ → ℕ) (key : Setting) (slots id k : ℕ) (v : View) (xs : List (ℕ × Slot)) : Type 0 where
   -- the job side: a claim is the event `Claim` if it finds the node ready (1), else a stutter
   pub claim : (n : ℕ) → n < (job_with work key).plan.count → v.own.task ≡ Idle → v.own.call ≢ Out

@@ -21,8 +21,8 @@ pub record RowInWords (workers nodes leaf_total : ℕ) (node_of : ℕ → ℕ) (
   pub end : row.end ≡ end_in (slice_index words (node_at workers (node_of row.leaf)))
   pub value : row.value ≡ slice_index words (value_at workers nodes (node_of row.leaf))
 
--- The table, whose leaves of work compute `work`, shows a state whose root is done. The report's rows are read from the table's words, and the report is that
--- of the state, so its history is the state's book.
+-- The table, whose leaves of work compute `work`, shows a state whose root is done. The report's rows are read from the
+-- table's words, and the report is that of the state, so its history is the state's book.
 pub record IsReportOfTable (work : ℕ → ℕ) (key : Setting) (t : TableState) (report : Report) : Type 0 where
   pub shown : ShownWith work key t
   pub over : is_done (shown.state.node 0) ≡ true

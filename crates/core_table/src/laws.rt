@@ -9,9 +9,10 @@ ghost use Rattle.core_table.specs.Calls.{IsViewOf, EachCallRefines, MakingStutte
 pub use crate::sending::{is_sent, is_shared, tables_go_to_threads};
 use table_rule::laws::laws_hold;
 
-/// The refinement, at the step of each call on any table that meets the rule, whatever the leaves of work compute. A `take` is an event even if it takes no
-/// call. A refused claim, win or leave, a look at the root, the batch count, the stop word or the value of a source,
-/// and `stop` are stutters. So are the steps that make a pass: its split off the first seat, and its enrolment.
+/// The refinement, at the step of each call on any table that meets the rule, whatever the leaves of work compute. A
+/// `take` is an event even if it takes no call. A refused claim, win or leave, a look at the root, the batch count, the
+/// stop word or the value of a source, and `stop` are stutters. So are the steps that make a pass: its split off the
+/// first seat, and its enrolment.
 pub fn each_call_is_its_event()
     ensures calls { (work : ℕ → ℕ) (key : Setting) → IsSound key
         → (slots id k : ℕ) (v : View) (xs : List (ℕ × Slot)) → IsViewOf key k v

@@ -1,3 +1,3 @@
--- What only the code and its proofs cite: no public contract speaks of it but by the view of the scopes.
+-- What the code and its proofs cite. Public contracts speak of it by the view of the scopes and by `IsKept` alone.
 pub mod Places
 pub mod Kept

@@ -23,7 +23,7 @@ fn row(job: &mut Builder, columns: usize) -> Result<(), BuildError>
     Ok(())
 }
 
-/// A job of rows in parallel, each of adds in series. It is refused as full exactly where it has more leaves than a job
+/// A job of rows in parallel, each of adds in series. It is refused as full only where it has more leaves than a job
 /// may have.
 pub fn grid_job(alloc: Global, rows: usize, columns: usize) -> Result<Job, BuildError>
     ensures leaves { IfOk result (λ job. length job.acts ≡ rows * columns) }

@@ -43,7 +43,7 @@ fn clerk(job: &mut Builder) -> Result<Handle, BuildError>
     Ok(called)
 }
 
-/// The job of so many customers, who come at once, and of a clerk behind them. It is refused as full exactly where it has
+/// The job of so many customers, who come at once, and of a clerk behind them. It is refused as full only where it has
 /// more leaves than a job may have.
 pub fn ticket_job(alloc: Global, customers: usize) -> Result<Service, BuildError>
     ensures leaves { IfOk result (λ service. length service.job.acts ≡ 4 * customers) }

@@ -32,11 +32,11 @@ pub trait Batched: Sized + Drop {
     /// The content as serial objects, where the objects of other kinds are as at the opening.
     ghost content: { Self → Objects };
 
-    /// The calls that the structure can serve with this content: its own, if the content after them is representable.
-    ghost may_serve: { Objects → List CallOf → Type 0 };
+    /// The calls that the structure can serve: its own, if the content after them is representable.
+    ghost may_serve: { Self → List CallOf → Type 0 };
 
-    /// Relates the content before a batch and its calls to the inputs of its pieces.
-    ghost cut: { Objects → List CallOf → List Self.In → Type 0 };
+    /// Relates the structure before a batch and the batch's calls to the inputs of its pieces.
+    ghost cut: { Self → List CallOf → List Self.In → Type 0 };
 
     /// The specification of a piece: which outputs are right for an input.
     ghost meets: { Self.In → Self.Out → Type 0 };
@@ -48,9 +48,9 @@ pub trait Batched: Sized + Drop {
     fn begin(self, alloc: Global, calls: &[Call]) -> Result<(Self::Rest, Vec<Self::In>), AllocError>
         requires batch { AreOneBatch calls.now }
         requires one { AreOfOneNumber calls.now }
-        requires may { may_serve (content self) calls.now }
+        requires may { may_serve self calls.now }
         ensures count { IfOk result (λ p. (1 ≤ length p.1.items) × (length p.1.items ≤ MOST)) }
-        ensures cut { IfOk result (λ p. cut (content self) calls.now p.1.items) }
+        ensures cut { IfOk result (λ p. cut self calls.now p.1.items) }
         ensures remembers { IfOk result (λ p. is_context_of p.0 (record { before = self; calls = calls.now; ins = p.1.items })) };
 
     /// Runs one piece.
@@ -90,7 +90,7 @@ pub fn serve_batch<T: Batched>(
 ) -> Result<(T, Vec<Reply>), AllocError>
     requires batch { AreOneBatch calls.now }
     requires one { AreOfOneNumber calls.now }
-    requires may { T.may_serve (T.content structure) calls.now }
+    requires may { T.may_serve structure calls.now }
     ensures replies { IfOk result (λ p. p.1.items ≡ replies_to_all (T.content structure) calls.now) }
     ensures content { IfOk result (λ p. T.content p.0 ≡ after_all (T.content structure) calls.now) }
 {

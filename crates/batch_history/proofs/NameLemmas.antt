@@ -18,11 +18,11 @@ module _ (keeps : (op : Op) (argument : ℕ) → number_of (with_argument op arg
   same_number op given (inl same) = ap number_of same
   same_number op given (inr value) = ap number_of value.1 ∙ keeps given (value.0 % 2 ^ 32)
 
-  pub all_named : (job : JobValue) (book : List (List Entry)) (entries : List Entry) → AllByRecursion (λ act. number_in act ≤ length job.names) job.acts
-      → AllByRecursion (λ entry. op_of job book entry.leaf ≡ Some entry.op) entries → HaveNames job.names entries
-  all_named job book [] within operations = tt
-  all_named job book (entry ∷ entries) within operations =
-      let given = called_as job book entry.leaf entry.op operations.0 in
+  pub all_named : (work : ℕ → ℕ) (job : JobValue) (book : List (List Entry)) (entries : List Entry) → AllByRecursion (λ act. number_in act ≤ length job.names) job.acts
+      → AllByRecursion (λ entry. op_of work job book entry.leaf ≡ Some entry.op) entries → HaveNames job.names entries
+  all_named work job book [] within operations = tt
+  all_named work job book (entry ∷ entries) within operations =
+      let given = called_as work job book entry.leaf entry.op operations.0 in
       let own : number_of given.0 ≤ length job.names =
       at_leaf (λ act. number_in act ≤ length job.names) job.acts entry.leaf given.0 within given.1.0 in
-      (omega (arith, own, same_number entry.op given.0 given.1.1), all_named job book entries within operations.1)
+      (omega (arith, own, same_number entry.op given.0 given.1.1), all_named work job book entries within operations.1)

@@ -1,6 +1,6 @@
 -- When a report is lawful for a job and a number of workers. The seven parts are rows, order, calls, replies, ticks,
--- batches and values. Only the values depend on what the leaves of work compute: `meaning` takes the number of such a
--- leaf to its value, and is `spin_of` where nothing else is said.
+-- batches and values. Only the calls and the values depend on what the leaves of work compute: `meaning` takes the
+-- number of such a leaf to its value, and is `spin_of` where nothing else is said.
 use Rattle.std.specs.Prelude.{◌≡◌, ◌≢◌, ℕ, ◌*◌, ◌<◌, ◌⊎◌, List, [], ◌∷◌, map, slice_get, Some, IsSomeAnd, Contains}
 use Rattle.std.specs.Option.{ForSome}
 use Rattle.std.specs.List.{AllByRecursion, range_with_len}
@@ -12,7 +12,7 @@ use Rattle.sp_order.specs.Jobs.{JobValue}
 use Rattle.sp_order.specs.Sources.{IsCallLeaf}
 use Rattle.seq_objects.specs.Pairs.{IsEnumerationOf}
 use Rattle.batch_history.specs.Book.{flat, IsLegal, IsBatch}
-use Rattle.batch_history.specs.Operations.{op_of}
+use Rattle.batch_history.specs.Operations.{op_of, source_of, value_from}
 use Rattle.batch_history.specs.declared.batch.Entry.{Entry}
 use Rattle.batch_history.specs.declared.row.Row.{Row}
 use Rattle.batch_history.specs.declared.report.Report.{Report}
@@ -42,10 +42,14 @@ pub record KeepsOrder (job : JobValue) (report : Report) : Type 0 where
   pub alone : (u v : ℕ) → u ≢ v → ForRows report u v (λ row row'. row.worker ≡ row'.worker → (row.end < row'.start) ⊎ (row'.end < row.start))
 
 -- The book has each calling leaf exactly once, with the leaf's operation under this book and the worker of its row.
-pub record HasCalls (job : JobValue) (report : Report) : Type 0 where
+pub record HasCallsWith (meaning : ℕ → ℕ) (job : JobValue) (report : Report) : Type 0 where
   pub leaves : IsEnumerationOf (IsCallLeaf job.acts) (map (λ entry. entry.leaf) (flat report.history))
-  pub operations : AllByRecursion (λ entry. op_of job report.history entry.leaf ≡ Some entry.op) (flat report.history)
+  pub operations : AllByRecursion (λ entry. op_of meaning job report.history entry.leaf ≡ Some entry.op) (flat report.history)
   pub workers : AllByRecursion (λ entry. ForSome (slice_get report.rows entry.leaf) (λ row. row.worker ≡ entry.worker)) (flat report.history)
+
+-- the same where the leaves of work spin
+abbrev pub HasCalls : JobValue → Report → Type 0
+HasCalls = HasCallsWith spin_of
 
 -- the batch with this number contains the entry
 abbrev pub IsInBatch : Report → ℕ → Entry → Type 0
@@ -57,18 +61,21 @@ KeepsTicks report =
     (b c : ℕ) (first second : Entry) → IsInBatch report b first → IsInBatch report c second
     → ForRows report first.leaf second.leaf (λ row row'. row.end < row'.start → b < c)
 
--- A leaf of work has the value of its work, and a calling leaf that of its reply.
+-- A leaf of work has the value of its work under the book, and a calling leaf that of its reply.
 pub record HasValuesWith (meaning : ℕ → ℕ) (job : JobValue) (report : Report) : Type 0 where
-  pub work : (leaf steps : ℕ) → slice_get job.acts leaf ≡ Some (Work steps) → ForSome (slice_get report.rows leaf) (λ row. row.value ≡ meaning steps)
+  pub work : (leaf steps : ℕ) → slice_get job.acts leaf ≡ Some (Work steps)
+      → ForSome (slice_get report.rows leaf) (λ row. value_from meaning report.history (Work steps) (source_of job leaf) leaf ≡ Some row.value)
   pub calls : AllByRecursion (λ entry. ForSome (slice_get report.rows entry.leaf) (λ row. row.value ≡ value_of entry.reply)) (flat report.history)
 
+
+-- the same where they spin
 abbrev pub HasValues : JobValue → Report → Type 0
 HasValues = HasValuesWith spin_of
 
 pub record LawfulWith (meaning : ℕ → ℕ) (job : JobValue) (workers : ℕ) (report : Report) : Type 0 where
   pub rows : HasRows job workers report
   pub order : KeepsOrder job report
-  pub calls : HasCalls job report
+  pub calls : HasCallsWith meaning job report
   pub replies : IsLegal report.history
   pub ticks : KeepsTicks report
   pub batches : AllByRecursion IsBatch report.history

@@ -21,7 +21,7 @@ ghost use Rattle.sp_order.specs.Phases.{ComesBefore, HasNoSources, FillsFirst};
 ghost use Rattle.batch_history.specs.declared.batch.Entry.{Entry};
 ghost use Rattle.batch_history.specs.declared.report.Report.{Report};
 ghost use Rattle.batch_history.specs.Book.{flat, IsLegalFrom};
-ghost use Rattle.batch_history.specs.Operations.{op_from};
+ghost use Rattle.batch_history.specs.Operations.{op_from, value_from};
 ghost use Rattle.batch_history.specs.Places.{place_of};
 ghost use Rattle.batch_history.specs.Serving.{served, served_book, acts_in};
 ghost use Rattle.batch_history.specs.Lawful.{Lawful};
@@ -157,14 +157,18 @@ pub fn replies_are_small()
         → AllByRecursion (λ entry. value_of entry.reply < 2 ^ 64) (flat report.history) }
 {}
 
-/// The operation that a leaf calls under a book is the same under a longer book. A leaf with a source has one only
-/// where the book has an entry of the source, and only a leaf whose act is a call has one. `given` is the operation of
-/// the leaf's act.
+/// The value of a leaf under a book is the same under a longer book, and the operation that a leaf calls is the same
+/// where the values of leaves stay. A leaf with a source has an operation only where the source has a value, and only a
+/// leaf whose act is a call has one. `given` is the operation of the leaf's act.
 pub fn longer_book_keeps_operations()
-    ensures stays { (book : List (List Entry)) (batch : List Entry) (given : Option Op) (source : Option ℕ) (op : Op)
-        → op_from book given source ≡ Some op → op_from (book ++ batch ∷ []) given source ≡ Some op }
-    ensures source { (book : List (List Entry)) (given : Option Op) (source : ℕ) (op : Op)
-        → op_from book given (Some source) ≡ Some op → place_of book source ≢ None }
-    ensures calls { (book : List (List Entry)) (given : Option Op) (source : Option ℕ) (op : Op)
-        → op_from book given source ≡ Some op → given ≢ None }
+    ensures values { (work : ℕ → ℕ) (book : List (List Entry)) (batch : List Entry) (act : Act) (source : Option ℕ)
+        → (leaf value : ℕ) → value_from work book act source leaf ≡ Some value
+        → value_from work (book ++ batch ∷ []) act source leaf ≡ Some value }
+    ensures stays { (value later : ℕ → Option ℕ) (given : Option Op) (source : Option ℕ) (op : Op)
+        → ((leaf v : ℕ) → value leaf ≡ Some v → later leaf ≡ Some v)
+        → op_from value given source ≡ Some op → op_from later given source ≡ Some op }
+    ensures source { (value : ℕ → Option ℕ) (given : Option Op) (source : ℕ) (op : Op)
+        → op_from value given (Some source) ≡ Some op → (v : ℕ) × (value source ≡ Some v) }
+    ensures calls { (value : ℕ → Option ℕ) (given : Option Op) (source : Option ℕ) (op : Op)
+        → op_from value given source ≡ Some op → given ≢ None }
 {}

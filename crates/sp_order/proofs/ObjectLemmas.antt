@@ -11,7 +11,7 @@ use Rattle.seq_objects.proofs.Parts.{number_changed, number_leaves_argument, num
 use Rattle.sp_order.specs.Objects.{number_in, numbered, with_number, with_numbers, AreByFirstUse, AreNamed, AreUnnamed, AreNumbered, IsFirstUsed}
 use Rattle.sp_order.specs.Jobs.{JobValue, IsJob}
 use Rattle.sp_order.specs.Precedence.{Tree}
-use Rattle.sp_order.specs.Sources.{AreSources, IsSource}
+use Rattle.sp_order.specs.Sources.{AreSources, Calls, IsSource, MayTake}
 use Rattle.std.proofs.Common.{Option}
 
 abbrev numbers_of : List Act → List ℕ
@@ -104,24 +104,32 @@ numbers_given (Call op ∷ acts) (number ∷ numbers) as_many work =
     ap (λ n. n ∷ numbers_of (with_numbers acts numbers)) (number_given op number)
     ∙ ap (λ rest. number ∷ rest) (numbers_given acts numbers (omega (arith, as_many)) (λ leaf. work (suc leaf)))
 
-call_given : (acts : List Act) (numbers : List ℕ) (leaf : ℕ) (op : Op) → length numbers ≡ length acts → slice_get acts leaf ≡ Some (Call op)
-    → (number : ℕ) × (slice_get (with_numbers acts numbers) leaf ≡ Some (Call (with_number op number)))
-call_given [] numbers leaf op as_many at = cc
-call_given (act ∷ acts) [] leaf op as_many at = absurd (omega (arith, as_many))
-call_given (act ∷ acts) (number ∷ numbers) zero op as_many at = (number, ap (λ found. numbered_found found number) at)
-call_given (act ∷ acts) (number ∷ numbers) (suc leaf) op as_many at = call_given acts numbers leaf op (omega (arith, as_many)) at
+act_given : (acts : List Act) (numbers : List ℕ) (leaf : ℕ) (act : Act) → length numbers ≡ length acts → slice_get acts leaf ≡ Some act
+    → (number : ℕ) × (slice_get (with_numbers acts numbers) leaf ≡ Some (numbered act number))
+act_given [] numbers leaf act as_many at = cc
+act_given (first ∷ acts) [] leaf act as_many at = absurd (omega (arith, as_many))
+act_given (first ∷ acts) (number ∷ numbers) zero act as_many at = (number, ap (λ found. numbered_found found number) at)
+act_given (first ∷ acts) (number ∷ numbers) (suc leaf) act as_many at = act_given acts numbers leaf act (omega (arith, as_many)) at
+
+calls_still : (act : Act) (number : ℕ) → Calls act → Calls (numbered act number)
+calls_still (Work steps) number is = is
+calls_still (Call op) number is = tt
+
+takes_still : (act from : Act) (number other : ℕ) → MayTake act from → MayTake (numbered act number) (numbered from other)
+takes_still (Work steps) from number other is = (is.0, calls_still from other is.1)
+takes_still (Call op) from number other is = (number_leaves_taking op number ∙ is.0, number_leaves_argument op number ∙ is.1)
 
 source_stays : (shape : Option Tree) (acts : List Act) (numbers : List ℕ) (leaf source : ℕ) → length numbers ≡ length acts
     → IsSource shape acts leaf source → IsSource shape (with_numbers acts numbers) leaf source
 source_stays shape acts numbers leaf source as_many is =
-    let given = call_given acts numbers leaf is.op as_many is.call in
-    let called = call_given acts numbers source is.calls.0 as_many is.calls.1 in
+    let taking = act_given acts numbers leaf is.act as_many is.is in
+    let giving = act_given acts numbers source is.from as_many is.stands in
     record {
-      op = with_number is.op given.0;
-      call = given.1;
-      argument = number_leaves_taking is.op given.0 ∙ is.argument;
-      stands_as_zero = number_leaves_argument is.op given.0 ∙ is.stands_as_zero;
-      calls = (with_number is.calls.0 called.0, called.1);
+      act = numbered is.act taking.0;
+      is = taking.1;
+      from = numbered is.from giving.0;
+      stands = giving.1;
+      takes = takes_still is.act is.from taking.0 giving.0 is.takes;
       before = is.before;
     }
 

@@ -9,8 +9,8 @@ use Rattle.sp_order.specs.Objects.{AreNamed}
 use Rattle.sp_order.specs.Sources.{AreSources}
 use Rattle.sp_order.specs.TreeEncoding.{coded_tree}
 
--- A shape, and for its leaves from left to right their acts and their sources. A leaf's source is the leaf whose reply
--- is its argument. The names are those of the objects with the numbers 1, 2, and so on.
+-- A shape, and for its leaves from left to right their acts and their sources. A leaf's source is the leaf whose value it
+-- takes. The names are those of the objects with the numbers 1, 2, and so on.
 pub record JobValue : Type 0 where
   pub shape : Option Tree
   pub acts : List Act

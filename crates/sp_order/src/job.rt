@@ -15,9 +15,10 @@ use seq_objects::Act;
 use std::alloc::{AllocError, Global};
 use std::marker::Model;
 
-/// A shape, and the acts and sources of its leaves, from left to right: at most `MOST_LEAVES`. A leaf with a source
-/// calls with the reply of that leaf, which is before it, as its argument. The objects of its calls with the numbers 1,
-/// 2, and so on have the names, in this order. A job without leaves has no shape. Contracts see it as a `JobValue`.
+/// A shape, and the acts and sources of its leaves, from left to right: at most `MOST_LEAVES`. A leaf with a source takes
+/// the value of that leaf, which is before it, as the argument of its call or the number of its work. The objects of its
+/// calls with the numbers 1, 2, and so on have the names, in this order. A job without leaves has no shape. Contracts
+/// see it as a `JobValue`.
 #[derive(Drop)]
 pub struct Job {
     shape: Option<Shape>,
@@ -128,7 +129,7 @@ impl Job {
         self.names.as_slice()
     }
 
-    /// The source of this leaf: the leaf whose reply is its argument, or `None` where it has none.
+    /// The source of this leaf: the leaf whose value it takes, or `None` where it has none.
     pub fn source(&self, leaf: u32) -> Option<u32>
         requires { leaf < leaf_count self.now.shape }
         ensures { slice_get self.now.sources leaf ≡ Some result }

@@ -19,4 +19,4 @@ pub use node::{Kind, Move};
 pub use plan::Plan;
 pub use planned::PlannedJob;
 pub use shape::Shape;
-pub use sources::with_value;
+pub use sources::{low_bits, with_value};

@@ -107,7 +107,7 @@ impl PlannedJob {
         self.acts[leaf as usize]
     }
 
-    /// The source of this leaf: the leaf whose reply is its argument, or `None` where it has none.
+    /// The source of this leaf: the leaf whose value it takes, or `None` where it has none.
     pub fn source(&self, leaf: u32) -> Option<u32>
         requires { leaf < leaves (job_tree self.now) }
         ensures { slice_get self.now.sources leaf ≡ Some result }

@@ -1,7 +1,8 @@
-//! The sources of a job's leaves: a leaf's source is the leaf whose reply is the argument of its call.
+//! The sources of a job's leaves: a leaf's source is the leaf whose value is the argument of its call, or the number of
+//! its work.
 ghost use Rattle.std.specs.Prelude.{◌≡◌, ℕ, ◌+◌, ◌<◌, length, Some, IfOk, slice_get};
 ghost use Rattle.sp_order.specs.Code.SourcesView.{listed};
-ghost use Rattle.sp_order.specs.Sources.{with_value as valued};
+ghost use Rattle.sp_order.specs.Sources.{low_bits as lowest, with_value as valued};
 
 use seq_objects::Op;
 use std::alloc::{AllocError, Global};
@@ -42,9 +43,16 @@ impl Sources {
     }
 }
 
+/// The low 32 bits of a value.
+pub fn low_bits(value: u64) -> u32
+    ensures { result ≡ lowest value }
+{
+    (value % 0x1_0000_0000) as u32
+}
+
 /// The operation with the low 32 bits of this value as its argument.
 pub fn with_value(op: Op, value: u64) -> Op
     ensures { result ≡ valued op value }
 {
-    op.with_argument((value % 0x1_0000_0000) as u32)
+    op.with_argument(low_bits(value))
 }

@@ -2,6 +2,7 @@
 use Rattle.std.proofs.Common.{◌≡◌, ℕ, ◌+◌, ◌*◌, ◌-◌, ◌<◌, ◌≤◌, ◌^◌, List, [], ◌∷◌, length, refl, ap, subst, ◌∙◌, arith}
 use Rattle.std.specs.Prelude.{slice_get, Some}
 use Rattle.std.specs.List.{AllByRecursion}
+use Rattle.seq_objects.specs.Spin.{spin_of}
 use Rattle.seq_objects.specs.declared.op.Op.{Op}
 use Rattle.seq_objects.specs.declared.op.Op.TheVariants.{CounterAdd}
 use Rattle.seq_objects.specs.declared.act.Act.{Act}
@@ -59,7 +60,7 @@ module _ (job : JobValue) (workers : ℕ) (report : Report) (lawful : Lawful job
   entries = flat report.history
 
   calls : AllByRecursion (λ entry. slice_get job.acts entry.leaf ≡ Some (Call entry.op)) entries
-  calls = acts_at job report.history entries none lawful.calls.operations
+  calls = acts_at spin_of job report.history entries none lawful.calls.operations
 
   pub totals : (count : Op → ℕ) → total count (acts_in entries) ≡ total count job.acts
   totals = total_is job entries lawful.calls.leaves calls

@@ -5,6 +5,7 @@ use Rattle.std.specs.List.{AllByRecursion}
 use Rattle.std.proofs.lemmas.List.{length-map}
 use Rattle.std.proofs.lemmas.List.Elements.{Contains-append_left, Contains-append_right}
 use Rattle.std.proofs.lemmas.Option.{slice_get-get_or}
+use Rattle.seq_objects.specs.Spin.{spin_of}
 use Rattle.seq_objects.specs.declared.op.Op.{Op}
 use Rattle.seq_objects.specs.declared.act.Act.TheVariants.{Call}
 use Rattle.seq_objects.specs.Pairs.{AllPairsByRecursion}
@@ -83,7 +84,7 @@ module _ (job : JobValue) (workers : ℕ) (report : Report) (lawful : Lawful job
 
   called : (entry : Entry) (n : ℕ) → InBook report.history n entry → slice_get job.acts entry.leaf ≡ Some (Call entry.op)
   called entry n stands =
-      each_at (λ (e : Entry). slice_get job.acts e.leaf ≡ Some (Call e.op)) (flat report.history) entry (acts_at job report.history (flat report.history) none lawful.calls.operations)
+      each_at (λ (e : Entry). slice_get job.acts e.leaf ≡ Some (Call e.op)) (flat report.history) entry (acts_at spin_of job report.history (flat report.history) none lawful.calls.operations)
       (in_flat report.history n entry stands)
 
   -- calls counted by `early` come before calls counted by `late`

@@ -3,6 +3,7 @@ use Rattle.std.proofs.Common.{◌≡◌, ℕ, zero, suc, ◌+◌, ◌-◌, ◌*�
 use Rattle.std.specs.Prelude.{nat_le, nat_lt, ◌==◌, not, slice_get, if◌then◌else◌, cond}
 use Rattle.std.specs.List.{AllByRecursion}
 use Rattle.key_sets.specs.Keys.{has, with_key, without_key, least_above}
+use Rattle.seq_objects.specs.Spin.{spin_of}
 use Rattle.seq_objects.specs.Objects.{Objects, after, reply_to, number_of, value_of, argument_of, with_item, top, least, number_or_empty, yes_or_no}
 use Rattle.seq_objects.specs.Stores.{Store, opening_store, store_after}
 use Rattle.seq_objects.specs.declared.act.Act.{Act}
@@ -125,20 +126,20 @@ pub given_small : (op given : Op) → argument_of given < 2 ^ 32 → IsGiven op 
 given_small op given small (inl same) = subst (λ (o : Op). argument_of o < 2 ^ 32) (sym same) small
 given_small op given small (inr value) = subst (λ (o : Op). argument_of o < 2 ^ 32) (sym value.1) (narrow given value.0)
 
-called : (job : JobValue) (book : List (List Entry)) (entries : List Entry) → AllByRecursion (λ act. count_of_act argument_of act < 2 ^ 32) job.acts
-    → AllByRecursion (λ entry. op_of job book entry.leaf ≡ Some entry.op) entries → AllByRecursion (λ entry. argument_of entry.op < 2 ^ 32) entries
-called job book [] small operations = tt
-called job book (entry ∷ entries) small operations =
-    let given = called_as job book entry.leaf entry.op operations.0 in
-    (given_small entry.op given.0 (at_leaf (λ act. count_of_act argument_of act < 2 ^ 32) job.acts entry.leaf given.0 small given.1.0) given.1.1, called job book entries small operations.1)
+called : (work : ℕ → ℕ) (job : JobValue) (book : List (List Entry)) (entries : List Entry) → AllByRecursion (λ act. count_of_act argument_of act < 2 ^ 32) job.acts
+    → AllByRecursion (λ entry. op_of work job book entry.leaf ≡ Some entry.op) entries → AllByRecursion (λ entry. argument_of entry.op < 2 ^ 32) entries
+called work job book [] small operations = tt
+called work job book (entry ∷ entries) small operations =
+    let given = called_as work job book entry.leaf entry.op operations.0 in
+    (given_small entry.op given.0 (at_leaf (λ act. count_of_act argument_of act < 2 ^ 32) job.acts entry.leaf given.0 small given.1.0) given.1.1, called work job book entries small operations.1)
 
 -- each entry counts as one, as its act does
-count_one : (job : JobValue) (book : List (List Entry)) (entries : List Entry) → AllByRecursion (λ entry. op_of job book entry.leaf ≡ Some entry.op) entries
+count_one : (work : ℕ → ℕ) (job : JobValue) (book : List (List Entry)) (entries : List Entry) → AllByRecursion (λ entry. op_of work job book entry.leaf ≡ Some entry.op) entries
     → AllByRecursion (CountsAlike (λ _. 1) job.acts) entries
-count_one job book [] operations = tt
-count_one job book (entry ∷ entries) operations =
-    let given = called_as job book entry.leaf entry.op operations.0 in
-    ((given.0, (given.1.0, refl)), count_one job book entries operations.1)
+count_one work job book [] operations = tt
+count_one work job book (entry ∷ entries) operations =
+    let given = called_as work job book entry.leaf entry.op operations.0 in
+    ((given.0, (given.1.0, refl)), count_one work job book entries operations.1)
 
 -- there are no more calls than acts
 calls_counted : (entries : List Entry) → total (λ _. 1) (acts_in entries) ≡ length entries
@@ -157,6 +158,6 @@ pub small_replies_of : (job : JobValue) (workers : ℕ) (report : Report) → La
     → AllByRecursion (λ act. count_of_act argument_of act < 2 ^ 32) job.acts → AllByRecursion (λ entry. value_of entry.reply < 2 ^ 64) (flat report.history)
 small_replies_of job workers report lawful few small =
     let entries = flat report.history in
-    let counted = alike_total job entries lawful.calls.leaves (λ _. 1) (count_one job report.history entries lawful.calls.operations) in
-    small_replies entries lawful.replies (called job report.history entries small lawful.calls.operations)
+    let counted = alike_total job entries lawful.calls.leaves (λ _. 1) (count_one spin_of job report.history entries lawful.calls.operations) in
+    small_replies entries lawful.replies (called spin_of job report.history entries small lawful.calls.operations)
     (omega (arith, few, calls_counted entries, counted, acts_counted job.acts))

@@ -1,5 +1,8 @@
-use Rattle.batch_history.proofs.ActLemmas.{from_kept, from_source, from_calls}
+use Rattle.batch_history.proofs.ActLemmas.{value_stays, from_kept, from_source, from_calls}
 use Rattle.batch_history.proofs.laws.longer_book_keeps_operations.Goals as goal
+
+pub returns-clause-values : goal.returns-clause-values
+returns-clause-values c = value_stays
 
 pub returns-clause-stays : goal.returns-clause-stays
 returns-clause-stays c = from_kept

@@ -1,6 +1,6 @@
 -- The choice of a worker's turn: the event it makes, or none. In each function the first matching case decides.
 use Rattle.core_model.specs.Lists.{ready_after}
-use Rattle.core_model.specs.Next.{event_of, next_act}
+use Rattle.core_model.specs.Next.{event_in, next_act}
 use Rattle.core_model.specs.declared.next.Next.{Next}
 use Rattle.core_model.specs.Operations.{Place, leaf_of, place_of, receipt_for}
 use Rattle.core_model.specs.State.{CoreJob, CoreState, Hold, State, put}
@@ -75,14 +75,14 @@ choice_idle job ready w [] = choice_steal ready job.workers (w + 1) (job.workers
 choice_idle job ready w (n ∷ ns) = Some (Claim (last_of n ns))
 
 -- the event of a next act, if there is one
-abbrev pub event_if : (ℕ → ℕ) → (ℕ → ℕ) → Option Next → Option Event
-event_if work mark None = None
-event_if work mark (Some act) = Some (event_of work mark act)
+abbrev pub event_if : CoreJob → State → Option Next → Option Event
+event_if job s None = None
+event_if job s (Some act) = Some (event_in job s act)
 
 -- the turn of a worker that is not trapped: it claims a node if it has no task, else it makes its next act
 abbrev pub choice_free : CoreJob → CoreState → ℕ → Task → Option Event
 choice_free job s w Idle = choice_idle job s.ready w (s.ready w)
-choice_free job s w task = event_if job.work s.state.mark (next_act job task (s.state.call w))
+choice_free job s w task = event_if job s.state (next_act job task (s.state.call w))
 
 -- the turn of a worker that does not own the flag, by its status
 abbrev pub choice_by : CoreJob → CoreState → ℕ → Status → Option Event

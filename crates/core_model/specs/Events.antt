@@ -1,7 +1,7 @@
 -- The events: what each needs of the state, and what it does to it. These are the rules of the model.
 use Rattle.batch_history.specs.Book.{IsBatch, IsLegalFrom}
 use Rattle.core_model.specs.Words.{Entry, Event, Answer, ArriveFirst, ArriveSecond, Claim, End, FinishLeaf, FinishPar, FinishSeq, Keep, Leave, OpenParLeft, OpenParRight, OpenSeqLeft, OpenSeqRight, Post, Publish, Release, Start, Take, Win, Done, Ran, Ready, Taken, CallState, Got, NotCalled, Out, Status, Executing, Free, Pending, Served, Task, Ended, Half, Handed, Idle, Kept, Run, Started, Whole, Act, Call, Work, IsSide, LeafNode, ParNode, SeqNode}
-use Rattle.core_model.specs.Operations.{IsCall, IsLeaf, IsReceipt, leaf_of, op_of, place_of}
+use Rattle.core_model.specs.Operations.{IsCall, IsLeaf, IsReceipt, leaf_of, op_of, place_of, value_under}
 use Rattle.core_model.specs.Serving.{served}
 use Rattle.core_model.specs.State.{CoreJob, Hold, State, put}
 use Rattle.seq_objects.specs.Objects.{value_of}
@@ -47,12 +47,12 @@ kind_of (FinishPar p l r) = a_finish
 kind_of (ArriveFirst p l r n) = an_arrive
 kind_of (ArriveSecond p l r n) = an_arrive
 
--- the value of a leaf with this act, where a leaf of work computes `work`, or `None` while its call has no receipt
-abbrev pub value_in : (ℕ → ℕ) → Act → CallState → Option ℕ
-value_in work (Work steps) call = Some (work steps)
-value_in work (Call op) NotCalled = None
-value_in work (Call op) Out = None
-value_in work (Call op) (Got receipt) = Some (value_of receipt.reply)
+-- the value of a leaf with this act: `worked` where it works, and that of its receipt, once it has one, where it calls
+abbrev pub value_in : Act → Option ℕ → CallState → Option ℕ
+value_in (Work steps) worked call = worked
+value_in (Call op) worked NotCalled = None
+value_in (Call op) worked Out = None
+value_in (Call op) worked (Got receipt) = Some (value_of receipt.reply)
 
 -- worker `w` owns the flag, with hold `h`
 abbrev pub Holds : State → ℕ → Hold → Type 0
@@ -83,7 +83,8 @@ Needs job s w Release =
     (h : Hold) × Holds s w h × (h.looks ≡ job.workers) × ((u : ℕ) → h.taken u ≡ true → h.answered u ≡ true)
 Needs job s w (Leave receipt) = (s.status w ≡ Served receipt) × ((h : Hold) → s.hold ≡ Some h → h.worker ≢ w)
 Needs job s w (Keep n t v) =
-    (s.status w ≡ Free) × (s.task w ≡ Started n t) × (value_in job.work (job.act (leaf_of (job.plan.kind n))) (s.call w) ≡ Some v)
+    (s.status w ≡ Free) × (s.task w ≡ Started n t)
+    × (value_in (job.act (leaf_of (job.plan.kind n))) (value_under job s.book (leaf_of (job.plan.kind n))) (s.call w) ≡ Some v)
 Needs job s w (End n t) = (s.status w ≡ Free) × (s.task w ≡ Kept n t)
 Needs job s w (FinishLeaf n t e) = (s.status w ≡ Free) × (s.task w ≡ Ended n t e)
 Needs job s w (FinishSeq p l r) = (s.status w ≡ Free) × (s.task w ≡ Whole r) × (job.plan.kind p ≡ Some (SeqNode l r))

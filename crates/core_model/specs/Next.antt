@@ -1,12 +1,12 @@
 -- What a worker that has a task does next: the act, the event that it is, and the task that it leaves.
 use Rattle.core_model.specs.Events.{Does, EventKind, Needs, a_finish, a_keep, a_post, a_start, an_arrive, an_end, an_open, kind_of, task_after}
-use Rattle.core_model.specs.Operations.{leaf_of}
+use Rattle.core_model.specs.Operations.{leaf_of, value_under}
 use Rattle.core_model.specs.State.{CoreJob, State}
-use Rattle.core_model.specs.Words.{Event, ArriveFirst, ArriveSecond, End, FinishLeaf, FinishPar, FinishSeq, Keep, OpenParLeft, OpenParRight, OpenSeqLeft, OpenSeqRight, Post, Start, CallState, Got, NotCalled, Out, Task, Ended, Half, Handed, Idle, Kept, Run, Started, Whole, Act, Call, Work, Nodes, Kind, LeafNode, ParNode, SeqNode, Move, Arrive, FinishParent, OpenSecond, Root}
+use Rattle.core_model.specs.Words.{Entry, Event, ArriveFirst, ArriveSecond, End, FinishLeaf, FinishPar, FinishSeq, Keep, OpenParLeft, OpenParRight, OpenSeqLeft, OpenSeqRight, Post, Start, CallState, Got, NotCalled, Out, Task, Ended, Half, Handed, Idle, Kept, Run, Started, Whole, Act, Call, Work, Nodes, Kind, LeafNode, ParNode, SeqNode, Move, Arrive, FinishParent, OpenSecond, Root}
 use Rattle.core_model.specs.declared.next.Next.{Next}
 use Rattle.core_model.specs.declared.next.Next.TheVariants as acts
 use Rattle.seq_objects.specs.Objects.{value_of}
-use Rattle.std.specs.Prelude.{None, Option, Some, if◌then◌else◌, ℕ, ◌==◌, ◌≡◌}
+use Rattle.std.specs.Prelude.{List, None, Option, Some, if◌then◌else◌, unwrap_or, ℕ, ◌==◌, ◌≡◌}
 
 -- the act at a series block, from its two sides; a node of another kind has none
 abbrev pub in_series : Option Kind → (ℕ → ℕ → Next) → Option Next
@@ -79,17 +79,25 @@ next_of plan act (Handed p) call = act_of_handed (plan.kind p) p
 abbrev pub next_act : CoreJob → Task → CallState → Option Next
 next_act job task call = next_of job.plan job.act task call
 
--- the event that the act is, where a leaf of work computes `work`, from the number of sides that have arrived at each
--- parallel block
+-- the value of the leaf of work at a node under a book; 0 where it has none yet
+abbrev pub worked : CoreJob → List (List Entry) → ℕ → ℕ
+worked job book n = unwrap_or (value_under job book (leaf_of (job.plan.kind n))) 0
+
+-- the event that the act is, where the leaf of work at a node has the value `worked`, from the number of sides that
+-- have arrived at each parallel block
 abbrev pub event_of : (ℕ → ℕ) → (ℕ → ℕ) → Next → Event
-event_of work mark (acts.Start n leaf) = Start n
-event_of work mark (acts.Open n task event) = event
-event_of work mark (acts.Spin n start steps) = Keep n start (work steps)
-event_of work mark (acts.Call n start leaf op) = Post n start
-event_of work mark (acts.Got n start reply) = Keep n start (value_of reply)
-event_of work mark (acts.End n start) = End n start
-event_of work mark (acts.Finish n event) = event
-event_of work mark (acts.Arrive p left right n) = if mark p == 0 then ArriveFirst p left right n else ArriveSecond p left right n
+event_of worked mark (acts.Start n leaf) = Start n
+event_of worked mark (acts.Open n task event) = event
+event_of worked mark (acts.Spin n start steps) = Keep n start (worked n)
+event_of worked mark (acts.Call n start leaf op) = Post n start
+event_of worked mark (acts.Got n start reply) = Keep n start (value_of reply)
+event_of worked mark (acts.End n start) = End n start
+event_of worked mark (acts.Finish n event) = event
+event_of worked mark (acts.Arrive p left right n) = if mark p == 0 then ArriveFirst p left right n else ArriveSecond p left right n
+
+-- the event that the act is in a state of a job
+abbrev pub event_in : CoreJob → State → Next → Event
+event_in job s act = event_of (worked job s.book) s.mark act
 
 -- the kind of that event
 abbrev pub kind_of_act : Next → EventKind
@@ -116,8 +124,8 @@ task_left tick mark (acts.Arrive p left right n) = if mark p == 0 then Idle else
 -- The act is an event of worker `w` in state `s`.
 pub record IsNextEvent (job : CoreJob) (s : State) (w : ℕ) (act : Next) : Type 0 where
   -- the needs of the event are met
-  pub needs : Needs job s w (event_of job.work s.mark act)
+  pub needs : Needs job s w (event_in job s act)
   -- the event is of the act's kind
-  pub kind : kind_of (event_of job.work s.mark act) ≡ kind_of_act act
+  pub kind : kind_of (event_in job s act) ≡ kind_of_act act
   -- the event leaves the worker the act's task
-  pub leaves : (new : State) → Does job s w (event_of job.work s.mark act) new → new.task w ≡ task_left s.tick s.mark act
+  pub leaves : (new : State) → Does job s w (event_in job s act) new → new.task w ≡ task_left s.tick s.mark act

@@ -12,7 +12,8 @@ abbrev pub put : {A : Type 0} → (ℕ → A) → ℕ → A → ℕ → A
 put f n x m = if m == n then x else f m
 
 -- A job in the model: its plan, the act of each leaf, the source of each leaf that has one, what the leaves of work
--- compute, and the number of workers. The reply of its source is the argument of a leaf's call.
+-- compute, and the number of workers. The value of its source is the argument of a leaf's call, or the number of its
+-- work.
 pub record CoreJob : Type 0 where
   pub plan : Nodes
   pub act : ℕ → Act

@@ -7,9 +7,9 @@ use Rattle.seq_objects.specs.Batches.{AreInBatchOrder}
 use Rattle.seq_objects.specs.declared.call.Call.{Call}
 use Rattle.core_model.proofs.Words.{Op, Kind, LeafNode, Entry, Publish, Task, Started, CoreJob, State}
 use Rattle.core_model.specs.LeafSources.{HasSources}
-use Rattle.core_model.specs.Operations.{IsCall, IsLeaf, Place, leaf_of, place_of}
+use Rattle.core_model.specs.Operations.{IsCall, IsLeaf, leaf_of, value_under}
 use Rattle.core_model.proofs.BookLemmas.Operations.{some_op}
-use Rattle.core_model.proofs.BookLemmas.Sources.{source_replied}
+use Rattle.core_model.proofs.BookLemmas.Sources.{source_valued}
 use Rattle.core_model.specs.Events.{Needs, IsBatchOf}
 use Rattle.core_model.specs.Invariant.Statuses.{IsAtCall}
 use Rattle.core_model.specs.Invariant.Tasks.{TaskFits}
@@ -79,9 +79,9 @@ place call (y ∷ ys) apart order = elim (first_or_not call.op y.op call.worker 
       }
 ]
 
--- a worker that is at a call has a call, where the book has the entry of the leaf's source
+-- a worker that is at a call has a call, where the leaf's source has a value
 call_at : (job : CoreJob) (book : List (List Entry)) (task : Task) (w : ℕ) → IsAtCall job task → ((n start : ℕ) → task ≡ Started n start → IsLeaf (job.plan.kind n))
-    → ((n start leaf source : ℕ) → task ≡ Started n start → job.plan.kind n ≡ Some (LeafNode leaf) → job.source leaf ≡ Some source → (place : Place) × (place_of book source ≡ Some place))
+    → ((n start leaf source : ℕ) → task ≡ Started n start → job.plan.kind n ≡ Some (LeafNode leaf) → job.source leaf ≡ Some source → (v : ℕ) × (value_under job book source ≡ Some v))
     → (call : Call) × (call.worker ≡ w) × IsCallOf job book task call
 call_at job book task w at_call at_leaf there =
     let started = at_call_started job task at_call in
@@ -151,7 +151,7 @@ pub batch_exists : (job : CoreJob) (s : State) (w : ℕ) → HasSources job → 
 batch_exists job s w sources h needs =
     let all = taken_up_to job s.book s.task needs.0.taken
     (λ v took. call_at job s.book (s.task v) v (taken_at_call job s needs.0 h needs.1.0 needs.4 v took) (started_leaf job s h v)
-    (λ n start leaf source is kind of. let replied = source_replied job s sources h v n start leaf source is kind of in (replied.place, replied.stands))) job.workers in
+    (λ n start leaf source is kind of. let value = source_valued job s sources h v n start leaf source is kind of in (value.value, value.under))) job.workers in
     let entries = replied s.objects all.calls in
     let are = sym (replied_are s.objects all.calls) in (
       entries,

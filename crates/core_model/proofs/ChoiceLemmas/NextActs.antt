@@ -1,16 +1,19 @@
 -- The next act of a worker that is not trapped: it is an event whose needs are met.
 use Rattle.std.proofs.Common.{ℕ, ◌≡◌, ◌≢◌, ◌<◌, ◌+◌, ◌==◌, ◌⊎◌, Bool, true, false, if◌then◌else◌, Option, Some, None, arith, refl, inl, inr, ap, ◌∙◌, eqb-true}
+use Rattle.std.specs.Prelude.{unwrap_or}
 use Rattle.std.proofs.lemmas.Bool.{cases_eq}
 use Rattle.std.proofs.lemmas.Bool.Decides.{nat_tests}
 use Rattle.core_model.proofs.Words.{Act, Work, Call, Kind, LeafNode, SeqNode, ParNode, Move, Root, OpenSecond, FinishParent, Arrive as ArriveAt, IsPlan, IsSide, HasSide, parent_of, Task, Idle, Run, Half, Started, Kept, Ended, Whole, Handed, Free, CallState, NotCalled, Out, Got, Event, ArriveFirst, ArriveSecond, CoreJob, State, is_done, names}
-use Rattle.core_model.specs.Operations.{leaf_of, op_in}
+use Rattle.core_model.specs.LeafSources.{HasSources}
+use Rattle.core_model.specs.Operations.{leaf_of, op_in, value_under}
 use Rattle.core_model.specs.Invariant.Tasks.{TaskFits}
-use Rattle.core_model.specs.Events.{Does, Needs, an_arrive, kind_of}
+use Rattle.core_model.specs.Events.{Does, Needs, an_arrive, kind_of, value_in}
 use Rattle.core_model.specs.Invariant.Statuses.{is_taken_by}
-use Rattle.core_model.specs.Next.{act_of_arrive, act_of_handed, act_of_half, act_of_parent, act_of_run, act_of_second, act_of_started, act_of_whole, next_act, IsNextEvent}
+use Rattle.core_model.specs.Next.{act_of_arrive, act_of_handed, act_of_half, act_of_parent, act_of_run, act_of_second, act_of_started, act_of_whole, next_act, worked, IsNextEvent}
 use Rattle.core_model.specs.declared.next.Next.{Next}
 use Rattle.core_model.proofs.Inductive.Nodes.{passed_if}
 use Rattle.core_model.proofs.Inductive.Parts.{InductiveParts}
+use Rattle.core_model.proofs.BookLemmas.Sources.{work_valued}
 use Rattle.core_model.proofs.ChoiceLemmas.Search.{if_both}
 use Rattle.core_model.proofs.InvariantLemmas.Puts.{put_at}
 use Rattle.core_model.proofs.InvariantLemmas.StatusRows.{not_out}
@@ -36,7 +39,7 @@ mark_low job s w p l r n laws h mine kind side =
       | inr some ↦ let one = low_mark (is_done (s.node l)) (is_done (s.node r)) (h.holder l) (h.holder r) (s.mark p) (h.tasks.marks p l r kind) held some in omega (arith, one)
     ]
 
-module _ (job : CoreJob) (s : State) (w : ℕ) (laws : IsPlan job.plan) (h : InductiveParts job s) (free : s.status w ≡ Free) where
+module _ (job : CoreJob) (s : State) (w : ℕ) (laws : IsPlan job.plan) (sources : HasSources job) (h : InductiveParts job s) (free : s.status w ≡ Free) where
   run_acts : (n : ℕ) (k : Option Kind) → s.task w ≡ Run n → job.plan.kind n ≡ k → k ≢ None → Acts job s w (act_of_run k n)
   run_acts n (Some (LeafNode u)) mine kind inside = record {
     needs = (free, mine, (u, kind));
@@ -62,10 +65,28 @@ module _ (job : CoreJob) (s : State) (w : ℕ) (laws : IsPlan job.plan) (h : Ind
     leaves = λ new does. ap (λ (t : State). t.task w) does ∙ put_at s.task w w _ refl;
   })
 
+  worked_is : (x : Option ℕ) (v : ℕ) → x ≡ Some v → x ≡ Some (unwrap_or x 0)
+  worked_is None v is = absurd cc
+  worked_is (Some v) other is = refl
+
+  -- a started leaf of work has its value
+  worked_there : (n t k : ℕ) → s.task w ≡ Started n t → job.act (leaf_of (job.plan.kind n)) ≡ Work k
+      → value_under job s.book (leaf_of (job.plan.kind n)) ≡ Some (worked job s.book n)
+  worked_there n t k mine act =
+      let fits : TaskFits job.plan s.node s.mark (Started n t) = rw mine at (h.tasks.fits w) in
+      let leaf = fits.0 in
+      let kind : job.plan.kind n ≡ Some (LeafNode (leaf_of (job.plan.kind n))) = rw leaf.1 refl in
+      let value = work_valued job s sources h w n t (leaf_of (job.plan.kind n)) k mine kind act in
+      worked_is (value_under job s.book (leaf_of (job.plan.kind n))) value.0 value.1
+
   started_acts : (n t : ℕ) (a : Act) (c : CallState) → s.task w ≡ Started n t → job.act (leaf_of (job.plan.kind n)) ≡ a → s.call w ≡ c → c ≢ Out
       → Acts job s w (act_of_started a c n t (leaf_of (job.plan.kind n)))
   started_acts n t (Work k) c mine act call out = record {
-    needs = (free, mine, rw act refl);
+    needs = (
+      free,
+      mine,
+      ap (λ (x : Act). value_in x (value_under job s.book (leaf_of (job.plan.kind n))) (s.call w)) act ∙ worked_there n t k mine act,
+    );
     kind = refl;
     leaves = λ new does. ap (λ (t : State). t.task w) does ∙ put_at s.task w w _ refl;
   }
@@ -174,6 +195,6 @@ acts_some job s w (Some act) acts is = cc
 some_busy : (job : CoreJob) (t : Task) (call : CallState) (act : Next) → next_act job t call ≡ Some act → t ≢ Idle
 some_busy job t call act is idle = let none : next_act job t call ≡ None = rw idle refl in cc
 
-pub next_acts : (job : CoreJob) (s : State) (w : ℕ) (act : Next) → IsPlan job.plan → InductiveParts job s → s.status w ≡ Free → next_act job (s.task w) (s.call w) ≡ Some act → IsNextEvent job s w act
-next_acts job s w act laws h free is =
-    acts_of job s w act (next_act job (s.task w) (s.call w)) is (task_acts job s w laws h free (s.task w) refl (some_busy job (s.task w) (s.call w) act is) (h.tasks.fits w))
+pub next_acts : (job : CoreJob) (s : State) (w : ℕ) (act : Next) → IsPlan job.plan → HasSources job → InductiveParts job s → s.status w ≡ Free → next_act job (s.task w) (s.call w) ≡ Some act → IsNextEvent job s w act
+next_acts job s w act laws sources h free is =
+    acts_of job s w act (next_act job (s.task w) (s.call w)) is (task_acts job s w laws sources h free (s.task w) refl (some_busy job (s.task w) (s.call w) act is) (h.tasks.fits w))

@@ -2,6 +2,7 @@
 use Rattle.std.proofs.Common.{ℕ, zero, suc, ◌≡◌, ◌≢◌, ◌<◌, ◌+◌, ◌⊎◌, Bool, true, false, Option, Some, None, List, [], arith, refl, inl, inr, sym, ◌∙◌, ap}
 use Rattle.std.proofs.lemmas.Bool.{cases_eq, cases_lt}
 use Rattle.core_model.proofs.Words.{LeafNode, SeqNode, ParNode, Move, Root, OpenSecond, FinishParent, Arrive as ArriveAt, Tree, leaf, seq, par, leaves, Nodes, IsPlan, node_count, OccursAt, IsPlanOf, Entry, Progress, Waiting, Ready, Taken, Task, Idle, Status, Free, Pending, Executing, Served, CallState, Receipt, Event, Claim, Win, Leave, CoreJob, Hold, State, CoreState, is_done, names}
+use Rattle.core_model.specs.LeafSources.{HasSources}
 use Rattle.core_model.specs.Invariant.ReadyLists.{ReadyListsInvariant}
 use Rattle.core_model.specs.Events.{Needs}
 use Rattle.core_model.specs.Invariant.Statuses.{is_taken_by}
@@ -77,7 +78,7 @@ search P Q either (suc k) = elim (search P Q either k) [
   ]
 ]
 
-module _ (job : CoreJob) (s : State) (laws : IsPlan job.plan) (h : InductiveParts job s) where
+module _ (job : CoreJob) (s : State) (laws : IsPlan job.plan) (sources : HasSources job) (h : InductiveParts job s) where
   busy_below : (w : ℕ) → s.task w ≢ Idle → w < job.workers
   busy_below w busy = elim (cases_lt w job.workers) [ inl below ↦ below | inr beyond ↦ absurd (busy (h.beyond w beyond)) ]
 
@@ -101,7 +102,7 @@ module _ (job : CoreJob) (s : State) (laws : IsPlan job.plan) (h : InductivePart
   -- a worker with a task has an event, where the flag is free
   busy_event : (w : ℕ) → s.hold ≡ None → s.task w ≢ Idle → (ready : ℕ → List ℕ) → (event : Event) × Needs job s w event
   busy_event w none busy ready = elim (is_free (s.status w)) [
-    | inl free ↦ given job s w (choice_free job (record { state = s; ready = ready }) w (s.task w)) (task_gives job s w laws h free ready (s.task w) refl busy (h.tasks.fits w))
+    | inl free ↦ given job s w (choice_free job (record { state = s; ready = ready }) w (s.task w)) (task_gives job s w laws sources h free ready (s.task w) refl busy (h.tasks.fits w))
     | inr trapped ↦ trapped_event w none trapped
   ]
     where
@@ -156,16 +157,16 @@ module _ (job : CoreJob) (s : State) (laws : IsPlan job.plan) (h : InductivePart
       ]
 
 -- where the root is not done, the turn of some worker makes an event
-pub some_turn : (job : CoreJob) (tree : Tree) (s : CoreState) → IsPlan job.plan → IsPlanOf job.plan tree → InductiveParts job s.state → ReadyListsInvariant job.workers s.state.node s.ready
+pub some_turn : (job : CoreJob) (tree : Tree) (s : CoreState) → IsPlan job.plan → HasSources job → IsPlanOf job.plan tree → InductiveParts job s.state → ReadyListsInvariant job.workers s.state.node s.ready
     → is_done (s.state.node 0) ≡ false → (w : ℕ) × (w < job.workers) × (choice job s w ≢ None)
-some_turn job tree s laws plan h lists going =
-    let some = some_event job s.state laws h tree s.ready plan lists going s.state.hold refl in
-    (some.0, some.1, λ none. none_has_no_event job s some.0 laws some.1 h lists none some.2 some.3)
+some_turn job tree s laws sources plan h lists going =
+    let some = some_event job s.state laws sources h tree s.ready plan lists going s.state.hold refl in
+    (some.0, some.1, λ none. none_has_no_event job s some.0 laws sources some.1 h lists none some.2 some.3)
 
 -- while the root is not done, no stopped worker has a task and one is live, the turn of some live worker makes an event
-pub some_live_turn : (job : CoreJob) (tree : Tree) (s : CoreState) (live : ℕ → Bool) (one : ℕ) → IsPlan job.plan → IsPlanOf job.plan tree → InductiveParts job s.state → ReadyListsInvariant job.workers s.state.node s.ready
+pub some_live_turn : (job : CoreJob) (tree : Tree) (s : CoreState) (live : ℕ → Bool) (one : ℕ) → IsPlan job.plan → HasSources job → IsPlanOf job.plan tree → InductiveParts job s.state → ReadyListsInvariant job.workers s.state.node s.ready
     → is_done (s.state.node 0) ≡ false → one < job.workers → live one ≡ true → ((w : ℕ) → w < job.workers → live w ≡ false → s.state.task w ≡ Idle)
     → (w : ℕ) × (w < job.workers) × (live w ≡ true) × (choice job s w ≢ None)
-some_live_turn job tree s live one laws plan h lists going below on idle =
-    let some = live_event job s.state laws h tree live one plan going below on idle s.state.hold refl in
-    (some.0, some.1, some.2, λ none. none_has_no_event job s some.0 laws some.1 h lists none some.3 some.4)
+some_live_turn job tree s live one laws sources plan h lists going below on idle =
+    let some = live_event job s.state laws sources h tree live one plan going below on idle s.state.hold refl in
+    (some.0, some.1, some.2, λ none. none_has_no_event job s some.0 laws sources some.1 h lists none some.3 some.4)

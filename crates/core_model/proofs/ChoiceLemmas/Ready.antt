@@ -4,6 +4,7 @@ use Rattle.std.proofs.Common.{ℕ, zero, suc, ◌≡◌, ◌≢◌, ◌<◌, ◌
 use Rattle.std.proofs.lemmas.Bool.Decides.{nat_tests}
 use Rattle.std.proofs.lemmas.Bool.{cases_eq}
 use Rattle.core_model.proofs.Words.{IsPlan, Progress, Idle, Free, Event, Claim, put, CoreJob, Hold, State, CoreState}
+use Rattle.core_model.specs.LeafSources.{HasSources}
 use Rattle.core_model.specs.Lists.{without, times, ready_after}
 use Rattle.core_model.specs.Invariant.ReadyLists.{ReadyListsInvariant}
 use Rattle.core_model.specs.Invariant.Statuses.{is_taken_by}
@@ -130,8 +131,8 @@ choice_of_idle job s w h free idle =
     not_under job s w s.state.hold (free_holds_not job s.state w h free) ∙ (ap (choice_by job s w) free ∙ ap (choice_free job s w) idle)
 
 -- where a turn claims a node, the node leaves the right end of its list
-pub choice_ready : (job : CoreJob) (s : CoreState) (w n : ℕ) → IsPlan job.plan → w < job.workers → InductiveParts job s.state → ReadyListsInvariant job.workers s.state.node s.ready
+pub choice_ready : (job : CoreJob) (s : CoreState) (w n : ℕ) → IsPlan job.plan → HasSources job → w < job.workers → InductiveParts job s.state → ReadyListsInvariant job.workers s.state.node s.ready
     → choice job s w ≡ Some (Claim n) → LeavesAnEnd s.ready w n
-choice_ready job s w n laws among h lists chosen =
-    let needs = choice_needs job s w (Claim n) laws among h lists chosen in
+choice_ready job s w n laws sources among h lists chosen =
+    let needs = choice_needs job s w (Claim n) laws sources among h lists chosen in
     idle_leaves job s.state.node s.ready w n (s.ready w) lists refl (sym (choice_of_idle job s w h needs.0 needs.1) ∙ chosen)

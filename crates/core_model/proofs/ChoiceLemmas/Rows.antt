@@ -1,10 +1,11 @@
 -- The choice of a worker that is not trapped, row by row: the event that each task asks for, with what the plan, the
 -- act and the marks say.
-use Rattle.std.proofs.Common.{ℕ, ◌≡◌, ◌≢◌, Some, None, refl, arith}
+use Rattle.std.proofs.Common.{ℕ, ◌≡◌, ◌≢◌, Some, None, refl, ap, arith}
 use Rattle.std.proofs.lemmas.Bool.Decides.{nat_tests}
 use Rattle.core_model.proofs.Words.{Work, Call, LeafNode, SeqNode, ParNode, Root, OpenSecond, FinishParent, Arrive, Run, Half, Started, Kept, Ended, Whole, Handed, NotCalled, Out, Got, Receipt, Op, Start, OpenParRight, OpenParLeft, OpenSeqLeft, OpenSeqRight, Post, Keep, End, FinishLeaf, FinishSeq, FinishPar, ArriveFirst, ArriveSecond, CoreJob, CoreState}
 use Rattle.core_model.specs.Operations.{leaf_of}
-use Rattle.core_model.specs.Choice.{choice_free}
+use Rattle.core_model.specs.Choice.{choice_free, event_if}
+use Rattle.core_model.specs.Next.{act_of_started, worked}
 use Rattle.seq_objects.specs.Objects.{value_of}
 
 module _ (job : CoreJob) (s : CoreState) (w : ℕ) where
@@ -20,8 +21,9 @@ module _ (job : CoreJob) (s : CoreState) (w : ℕ) where
   half_opens : (p l r : ℕ) → job.plan.kind p ≡ Some (ParNode l r) → choice_free job s w (Half p) ≡ Some (OpenParLeft p l r)
   half_opens p l r kind = rw kind refl
 
-  work_is_kept : (n start steps : ℕ) → job.act (leaf_of (job.plan.kind n)) ≡ Work steps → choice_free job s w (Started n start) ≡ Some (Keep n start (job.work steps))
-  work_is_kept n start steps act = rw act refl
+  work_is_kept : (n start steps : ℕ) → job.act (leaf_of (job.plan.kind n)) ≡ Work steps → choice_free job s w (Started n start) ≡ Some (Keep n start (worked job s.state.book n))
+  work_is_kept n start steps act =
+      ap (λ a. event_if job s.state (act_of_started a (s.state.call w) n start (leaf_of (job.plan.kind n)))) act
 
   call_is_posted : (n start : ℕ) (op : Op) → job.act (leaf_of (job.plan.kind n)) ≡ Call op → s.state.call w ≡ NotCalled → choice_free job s w (Started n start) ≡ Some (Post n start)
   call_is_posted n start op act call = rw (act, call) refl

@@ -1,6 +1,7 @@
 -- What a choice owes, and the turns of a worker that is not trapped and has a task: the choice is its next act.
 use Rattle.std.proofs.Common.{ℕ, ◌≡◌, ◌≢◌, Option, Some, None, List, refl}
 use Rattle.core_model.proofs.Words.{IsPlan, Task, Idle, Free, Event, CoreJob, State, CoreState}
+use Rattle.core_model.specs.LeafSources.{HasSources}
 use Rattle.core_model.specs.Invariant.Tasks.{TaskFits}
 use Rattle.core_model.specs.Events.{Needs}
 use Rattle.core_model.specs.Next.{next_act}
@@ -24,16 +25,16 @@ gives_allows job s w None h = absurd h
 gives_allows job s w (Some event) h = h
 
 -- a worker that is not trapped and has a task chooses the event of its next act
-pub choice_is_next : (job : CoreJob) (s : CoreState) (w : ℕ) (t : Task) → t ≢ Idle → choice_free job s w t ≡ event_if job.work s.state.mark (next_act job t (s.state.call w))
+pub choice_is_next : (job : CoreJob) (s : CoreState) (w : ℕ) (t : Task) → t ≢ Idle → choice_free job s w t ≡ event_if job s.state (next_act job t (s.state.call w))
 choice_is_next job s w Idle busy = absurd (busy refl)
 choice_is_next job s w _ busy = refl
 
-acts_give : (job : CoreJob) (s : State) (w : ℕ) (o : Option Next) → Acts job s w o → Gives job s w (event_if job.work s.mark o)
+acts_give : (job : CoreJob) (s : State) (w : ℕ) (o : Option Next) → Acts job s w o → Gives job s w (event_if job s o)
 acts_give job s w None acts = absurd acts
 acts_give job s w (Some act) acts = acts.needs
 
-pub task_gives : (job : CoreJob) (s : State) (w : ℕ) (laws : IsPlan job.plan) (h : InductiveParts job s) (free : s.status w ≡ Free)
+pub task_gives : (job : CoreJob) (s : State) (w : ℕ) (laws : IsPlan job.plan) (sources : HasSources job) (h : InductiveParts job s) (free : s.status w ≡ Free)
     (ready : ℕ → List ℕ) (t : Task) → s.task w ≡ t → t ≢ Idle → TaskFits job.plan s.node s.mark t
     → Gives job s w (choice_free job (record { state = s; ready = ready }) w t)
-task_gives job s w laws h free ready t mine busy fits =
-    rw (choice_is_next job (record { state = s; ready = ready }) w t busy) (acts_give job s w (next_act job t (s.call w)) (task_acts job s w laws h free t mine busy fits))
+task_gives job s w laws sources h free ready t mine busy fits =
+    rw (choice_is_next job (record { state = s; ready = ready }) w t busy) (acts_give job s w (next_act job t (s.call w)) (task_acts job s w laws sources h free t mine busy fits))

@@ -1,12 +1,11 @@
 -- What the proofs carry of statuses, of the book, and of the values of leaves.
 use Rattle.std.specs.Prelude.{ℕ, ◌≡◌, ◌<◌, Bool, true, false, if◌then◌else◌, Option, None, Some, List, length, map}
 use Rattle.std.specs.List.{AllByRecursion}
-use Rattle.seq_objects.specs.Objects.{value_of}
 use Rattle.seq_objects.specs.Stores.{Store, opening_store}
-use Rattle.core_model.proofs.Words.{Act, Work, Call, LeafNode, Entry, Progress, Waiting, Ready, Taken, Done, Ran, Task, Idle, Run, Half, Started, Kept, Ended, Whole, Handed, Status, Free, Pending, Executing, Served, CallState, NotCalled, Out, Got, CoreJob}
+use Rattle.core_model.proofs.Words.{LeafNode, Entry, Progress, Waiting, Ready, Taken, Done, Ran, Task, Idle, Run, Half, Started, Kept, Ended, Whole, Handed, Status, Free, Pending, Executing, Served, CallState, NotCalled, Out, Got, CoreJob}
 use Rattle.seq_objects.specs.Pairs.{AreDistinct}
 use Rattle.batch_history.specs.Book.{flat, IsLegal, IsBatch}
-use Rattle.core_model.specs.Operations.{IsCall, op_of, Place, place_of}
+use Rattle.core_model.specs.Operations.{IsCall, op_of, origin_of, Place, place_of}
 use Rattle.core_model.specs.Serving.{served}
 use Rattle.core_model.specs.Invariant.Statuses.{IsAtCall, HasReceipt}
 use Rattle.core_model.proofs.Inductive.Ticks.{Stamp, stamp}
@@ -30,11 +29,11 @@ StatusFits job book task (Served receipt) (Got other) taken = ⊥
 abbrev pub EntryFits : CoreJob → List (List Entry) → ℕ → Place → Type 0
 EntryFits job book leaf place = (op_of job book leaf ≡ Some place.entry.op) × (place.entry.worker < job.workers) × (place.batch < length book)
 
--- the entry of a leaf's source stands in an earlier batch than the leaf's own
+-- the entry from which the value of a leaf's source comes stands in an earlier batch than the leaf's own
 abbrev pub SourcesFirst : CoreJob → List (List Entry) → Type 0
 SourcesFirst job book =
-    (leaf source : ℕ) (later : Place) → job.source leaf ≡ Some source → place_of book leaf ≡ Some later
-    → (earlier : Place) × (place_of book source ≡ Some earlier) × (earlier.batch < later.batch)
+    (leaf source origin : ℕ) (later : Place) → job.source leaf ≡ Some source → origin_of job source ≡ Some origin → place_of book leaf ≡ Some later
+    → (earlier : Place) × (place_of book origin ≡ Some earlier) × (earlier.batch < later.batch)
 
 -- the first place, of a leaf that has an end, is in an earlier batch than the second, if there is one
 abbrev pub IsEarlier : Option Place → Option Place → Type 0
@@ -99,12 +98,3 @@ valued_by Taken None task = false
 valued_by Taken (Some w) task = is_valued (task w)
 valued_by Done holder task = false
 valued_by (Ran w s e) holder task = true
-
-abbrev pub value_at : Option Place → Option ℕ
-value_at None = None
-value_at (Some place) = Some (value_of place.entry.reply)
-
--- the value that a leaf is to have, which does this and whose entry stands here
-abbrev pub value_due : (ℕ → ℕ) → Act → Option Place → Option ℕ
-value_due work (Work steps) place = Some (work steps)
-value_due work (Call op) place = value_at place

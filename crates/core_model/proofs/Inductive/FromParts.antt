@@ -15,13 +15,13 @@ use Rattle.core_model.specs.Invariant.ReadyLists.{ReadyListsInvariant}
 use Rattle.core_model.specs.Invariant.Nodes.{NodesInvariant}
 use Rattle.core_model.specs.Invariant.Tasks.{IsNamed, IsCount, IsPassed, TasksInvariant}
 use Rattle.core_model.specs.Invariant.Ticks.{IsStartedAs, Draw, start_of, end_of, start_by, end_by, IsDrawn, HasStart, HasEnd, TicksInvariant}
-use Rattle.core_model.specs.Invariant.Values.{IsKept, IsValue}
+use Rattle.core_model.specs.Invariant.Values.{IsKept}
 use Rattle.core_model.specs.Invariant.Statuses.{IsAtCall, HasReceipt, is_taken_by}
 use Rattle.core_model.specs.Invariant.Hold.{is_published}
 use Rattle.core_model.specs.Invariant.{Parts, Invariant}
 use Rattle.core_model.proofs.Inductive.Nodes.{InductiveNodes, passed_if, LeftAlone, InductiveTasks}
 use Rattle.core_model.proofs.Inductive.Ticks.{Stamp, stamp, stamp_in_task, stamp_by, stamps, Drawn, StartOf, EndOf, StartsAt, EndsAt, InductiveTicks}
-use Rattle.core_model.proofs.Inductive.Book.{StatusFits, IsEarlier, InductiveBook, booked_by, worker_at, is_valued, valued_by, value_at, value_due}
+use Rattle.core_model.proofs.Inductive.Book.{StatusFits, IsEarlier, InductiveBook, booked_by, worker_at, is_valued, valued_by}
 use Rattle.core_model.proofs.Inductive.Stamps.{started_name, started_leaf, stamped, stamped_end}
 use Rattle.core_model.proofs.Inductive.Parts.{InductiveParts}
 use Rattle.core_model.proofs.Inductive.Lists.{stands_in, InductiveLists}
@@ -329,13 +329,6 @@ module _ (job : CoreJob) (s : State) (h : Parts job s) where
   is_kept n Taken (Some w) at held e = kept_by (s.task w) n w refl (kept_tasks.holders.holds w n held) e
   is_kept n (Ran w a d) o at held e = inl (rw at refl)
 
-  value_is : (leaf : ℕ) (act : Act) (value : ℕ) → IsValue job.work s.book leaf act value → Some value ≡ value_due job.work act (place_of s.book leaf)
-  value_is leaf (Work steps) value is = ap Some is
-  value_is leaf (Call op) value is =
-      let at = (entry_there s.book is.0 h.book.leaves is.1).1 in
-      let place : place_of s.book leaf ≡ Some at.at = ap (place_of s.book) (sym is.2) ∙ at.is in
-      ap Some is.3 ∙ sym (ap value_at place ∙ ap (λ (e : Entry). Some (value_of e.reply)) at.entry)
-
   pub parts_carried : InductiveParts job s
   parts_carried = record {
     holder = holder;
@@ -352,9 +345,7 @@ module _ (job : CoreJob) (s : State) (h : Parts job s) where
         worker_same (place_of s.book leaf) (booked_by (s.node n) (holder n) s.task s.status s.call (is_published s.hold))
         (λ place at. is_by s job.plan holder n place.entry.worker kept_tasks (h.members.only n leaf kind call place at))
         (λ w e. h.members.each n leaf kind call w (by_node s holder n w (s.node n) (holder n) kept_tasks.holders refl refl e));
-    values = λ n leaf kind valued.
-        let is = h.values.values n leaf kind (is_kept n (s.node n) (holder n) refl refl valued) in
-        is.1 ∙ value_is leaf (job.act leaf) is.0 is.2;
+    values = λ n leaf kind valued. h.values.values n leaf kind (is_kept n (s.node n) (holder n) refl refl valued);
   }
 
 -- the lists

@@ -3,7 +3,7 @@ use Rattle.std.proofs.Common.{ℕ, ◌≡◌, ◌≢◌, ◌<◌, ◌⊎◌, Boo
 use Rattle.std.specs.Prelude.{Contains}
 use Rattle.std.proofs.lemmas.List.Elements.{recursion_from_All, All-contains_itself}
 use Rattle.seq_objects.specs.Objects.{value_of}
-use Rattle.core_model.specs.Invariant.Values.{IsKept, IsValue, ValuesInvariant}
+use Rattle.core_model.specs.Invariant.Values.{IsKept, ValuesInvariant}
 use Rattle.core_model.specs.Invariant.Statuses.{StatusesInvariant}
 use Rattle.core_model.specs.Invariant.Book.{BookInvariant}
 use Rattle.core_model.specs.Invariant.Membership.{IsBooked, MembershipInvariant}
@@ -15,13 +15,12 @@ use Rattle.core_model.specs.Invariant.Tasks.{TaskFits}
 use Rattle.core_model.specs.Invariant.Statuses.{IsAtCall, HasReceipt, is_taken_by}
 use Rattle.core_model.specs.Invariant.Hold.{is_published}
 use Rattle.core_model.proofs.Inductive.Nodes.{HoldersFit, InductiveTasks}
-use Rattle.core_model.proofs.Inductive.Book.{StatusFits, IsEarlier, is_booked, booked_by, worker_at, valued_by, value_due}
+use Rattle.core_model.proofs.Inductive.Book.{StatusFits, IsEarlier, is_booked, booked_by, worker_at, valued_by}
 use Rattle.core_model.proofs.Inductive.Parts.{InductiveParts}
 use Rattle.core_model.proofs.Inductive.Stamps.{stamped, stamped_end}
 use Rattle.core_model.proofs.Inductive.TicksHold.{ticks_stand}
 use Rattle.core_model.proofs.Inductive.NodesHold.{nodes_stand, tasks_stand}
 use Rattle.batch_history.proofs.BookLemmas.Books.{found_in_book}
-use Rattle.core_model.proofs.InvariantLemmas.Publish.{valued_is_booked, there_if}
 use Rattle.core_model.proofs.InvariantLemmas.StatusRows.{call_out, executing_taken, taken_executing, idle_free}
 
 -- one worker's status and call
@@ -189,24 +188,10 @@ is_valued_by job s h n leaf kind (inr (inr ended)) =
     let fits : TaskFits job.plan s.node s.mark (Ended n ended.1 ended.2) = rw ended.3 at (h.tasks.fits ended.0) in
     rw (fits.1, h.tasks.holders.named ended.0 n (ap names ended.3), ended.3) refl
 
--- the value that is due
-value_is : (work : ℕ → ℕ) (book : List (List Entry)) (leaf : ℕ) (a : Act) (p : Option Place) → (op_in a ≢ None → p ≢ None)
-    → ((place : Place) → p ≡ Some place → Contains (flat book) place.entry × (place.entry.leaf ≡ leaf))
-    → (value : ℕ) × (value_due work a p ≡ Some value) × IsValue work book leaf a value
-value_is work book leaf (Work steps) p there found = (work steps, refl, refl)
-value_is work book leaf (Call op) None there found = absurd (there (λ e. cc) refl)
-value_is work book leaf (Call op) (Some place) there found = (value_of place.entry.reply, refl, (place.entry, (found place refl).0, (found place refl).1, refl))
-
 -- the values
 pub values_stand : (job : CoreJob) (s : State) → InductiveParts job s → ValuesInvariant job s
 values_stand job s h = record {
-  values = λ n leaf kind kept.
-      let valued = is_valued_by job s h n leaf kind kept in
-      let is = value_is job.work s.book leaf (job.act leaf) (place_of s.book leaf)
-      (λ call. there_if (place_of s.book leaf) (booked_by (s.node n) (h.holder n) s.task s.status s.call (is_published s.hold)) (h.booked n leaf kind call)
-      (valued_is_booked (s.node n) (h.holder n) s.task s.status s.call (is_published s.hold) valued))
-      (λ place at. found_in_book (Contains (flat s.book)) s.book leaf place (recursion_from_All (Contains (flat s.book)) (flat s.book) (All-contains_itself (flat s.book))) at) in
-      (is.0, h.values n leaf kind valued ∙ is.1, is.2);
+  values = λ n leaf kind kept. h.values n leaf kind (is_valued_by job s h n leaf kind kept);
 }
 
 -- All parts.

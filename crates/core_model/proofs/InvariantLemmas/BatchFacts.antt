@@ -10,7 +10,7 @@ use Rattle.core_model.proofs.Inductive.Nodes.{InductiveTasks}
 use Rattle.core_model.proofs.Inductive.Ticks.{stamp, stamps}
 use Rattle.core_model.proofs.Inductive.Book.{StatusFits, EntryFits, SourcesFirst, IsEarlier, is_booked, booked_by, worker_at}
 use Rattle.batch_history.proofs.BookLemmas.Books.{place_append, place_below, place_in_batch, which_place}
-use Rattle.core_model.proofs.BookLemmas.Operations.{op_kept, of_source}
+use Rattle.core_model.proofs.BookLemmas.Operations.{op_kept, of_source, of_origin}
 
 -- the node that a task has started
 abbrev pub started_at : Task → Option ℕ
@@ -141,15 +141,16 @@ new_entry job s h b u p hold looks batch e = (
 
 -- the entries of sources stand first in a longer book too
 pub source_kept : (job : CoreJob) (s : State) (h : Hold) (b : List Entry) → BatchFits job s h.taken b → SourcesFirst job s.book → SourcesFirst job (s.book ++ b ∷ [])
-source_kept job s h b batch old leaf source later is at = elim (which_place (place_of s.book leaf) (place_in (length s.book) 0 b leaf) later (sym (place_append s.book b leaf) ∙ at)) [
+source_kept job s h b batch old leaf source origin later is from at = elim (which_place (place_of s.book leaf) (place_in (length s.book) 0 b leaf) later (sym (place_append s.book b leaf) ∙ at)) [
   | inl first ↦
-      let stands = old leaf source later is first in
-      (stands.0, place_append s.book b source ∙ ap (λ o. or_else o (place_in (length s.book) 0 b source)) stands.1, stands.2)
+      let stands = old leaf source origin later is from first in
+      (stands.0, place_append s.book b origin ∙ ap (λ o. or_else o (place_in (length s.book) 0 b origin)) stands.1, stands.2)
   | inr second ↦
-      let stands = of_source job s.book leaf source later.entry.op (batch.operation leaf later second) is in (
+      let value = of_source job s.book leaf source later.entry.op (batch.operation leaf later second) is in
+      let stands = of_origin job s.book source value.0 origin value.1 from in (
         stands.0,
-        place_append s.book b source ∙ ap (λ o. or_else o (place_in (length s.book) 0 b source)) stands.1,
-        omega (arith, place_below s.book source stands.0 stands.1, place_in_batch (length s.book) 0 b leaf later second),
+        place_append s.book b origin ∙ ap (λ o. or_else o (place_in (length s.book) 0 b origin)) stands.1,
+        omega (arith, place_below s.book origin stands.0 stands.1, place_in_batch (length s.book) 0 b leaf later second),
       )
 ]
 

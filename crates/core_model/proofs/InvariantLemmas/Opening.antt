@@ -80,9 +80,9 @@ opening_kept job laws inside = record {
     among = tt;
     operations = tt;
     entries = λ u p e. cc;
-    sources = λ u r p is e. cc;
+    sources = λ u r o p is from e. cc;
     in_order = λ n m u v w x s t d e ln lm call i j l. tt;
   };
   booked = λ n u leaf call. sym (opening_booked n (λ w. Idle) (λ w. Free) (λ w. NotCalled) false);
-  values = λ n u leaf k. let f = opening_valued n (λ w. Idle) in cc;
+  values = λ n u leaf k. let f = opening_valued n (λ w. Idle) in absurd cc;
 }

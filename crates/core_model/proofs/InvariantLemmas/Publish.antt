@@ -13,11 +13,11 @@ use Rattle.core_model.specs.Events.{has_taken, Needs, published, IsTakenCall, Is
 use Rattle.core_model.specs.Invariant.Statuses.{is_taken_by}
 use Rattle.core_model.specs.Invariant.Hold.{is_published, HoldInvariant}
 use Rattle.core_model.proofs.Inductive.Nodes.{HoldersFit}
-use Rattle.core_model.proofs.Inductive.Book.{StatusFits, booked_by, worker_at, valued_by, value_due}
+use Rattle.core_model.proofs.Inductive.Book.{StatusFits, booked_by, worker_at}
 use Rattle.core_model.proofs.Inductive.Parts.{InductiveParts}
 use Rattle.batch_history.proofs.BookLemmas.EntryLists.{apart_by, distinct_leaves}
 use Rattle.batch_history.proofs.BookLemmas.Books.{which_place, place_append, place_in_batch, found_entry, each_found, each_in_book, flat_append, served_append, legal_append}
-use Rattle.core_model.proofs.BookLemmas.Operations.{op_kept, is_call}
+use Rattle.core_model.proofs.BookLemmas.Operations.{op_kept, value_kept, is_call}
 use Rattle.core_model.proofs.InvariantLemmas.BatchFacts.{started_at, BatchFits, status_kept, taken_same, hold_kept, earlier_append, booked_published, entry_kept, executing, took_it, new_entry, source_kept, has_place, ended_booked, batch_node, batch_each}
 use Rattle.seq_objects.proofs.Elements.{each_append, each_so, each_both, each_mapped, each_at, distinct_append}
 
@@ -106,20 +106,6 @@ leaves_apart job s hd b h laws there unpublished only workers =
     (each_mapped (λ (e : Entry). e.leaf) (λ (e : Entry). place_of s.book e.leaf ≢ None) (λ l. place_of s.book l ≢ None) (λ e p. p) (flat s.book) (each_in_book s.book))
     (each_mapped (λ (e : Entry). e.leaf) (IsTakenCall job s) (λ l. (place_of s.book l ≢ None) → ⊥) (λ e p there'. there' (not_in_book job s hd e h there unpublished p)) b only)))
 
--- the value that is due stays the same
-still_due : (work : ℕ → ℕ) (a : Act) (p q : Option Place) → (op_in a ≢ None → p ≢ None) → value_due work a p ≡ value_due work a (or_else p q)
-still_due work (Work steps) p q h = refl
-still_due work (Call op) (Some p) q h = refl
-still_due work (Call op) None q h = absurd (h (λ e. cc) refl)
-
--- a leaf that has its value is booked, if it calls
-pub valued_is_booked : (x : Progress) (o : Option ℕ) (task : ℕ → Task) (status : ℕ → Status) (call : ℕ → CallState) (b : Bool) → valued_by x o task ≡ true → booked_by x o task status call b ≢ None
-valued_is_booked x o task status call b valued none = grind arith
-
--- where a worker is booked, there is a place
-pub there_if : (p : Option Place) (o : Option ℕ) → worker_at p ≡ o → o ≢ None → p ≢ None
-there_if p o e there none = grind arith
-
 -- the inductive invariant, after a batch is published
 pub publish_keeps : (job : CoreJob) (s : State) (w : ℕ) (b : List Entry) → IsPlan job.plan → InductiveParts job s → Needs job s w Publish → IsBatchOf job s b
     → InductiveParts job (record s { book = s.book ++ b ∷ []; objects = served s.objects b; hold = published s.hold })
@@ -167,7 +153,5 @@ publish_keeps job s w b laws h needs batch =
           (λ v e. (took_it job s hd v (rows v) e).1)
           (λ y e. batch_node job s hd b h.holder n u y h.tasks fits (laws.one_node n u leaf) e)
           (λ v e took started. batch_each job s hd b h.holder n u v h.tasks fits leaf e took started));
-      values = λ n u leaf k. h.values n u leaf k ∙ rw (place_append s.book b u) (still_due job.work (job.act u) (place_of s.book u) (place_in (length s.book) 0 b u)
-          (λ call. there_if (place_of s.book u) (booked_by (s.node n) (h.holder n) s.task s.status s.call (is_published s.hold)) (h.booked n u leaf call)
-          (valued_is_booked (s.node n) (h.holder n) s.task s.status s.call (is_published s.hold) k)));
+      values = λ n u leaf k. let is = h.values n u leaf k in (is.0, is.1, value_kept job s.book b u is.0 is.2);
     }

@@ -2,15 +2,17 @@
 use Rattle.std.proofs.Common.{ℕ, ◌≡◌, ◌≢◌, ◌<◌, Bool, Option, Some, None, List, arith, refl, inl, inr, sym, ◌∙◌}
 use Rattle.std.proofs.lemmas.Bool.Decides.{nat_tests}
 use Rattle.std.proofs.lemmas.Bool.{cases_eq}
+use Rattle.seq_objects.specs.Objects.{value_of}
+use Rattle.core_model.proofs.BookLemmas.Operations.{call_value}
 use Rattle.core_model.proofs.Words.{Act, Work, Call, LeafNode, IsPlan, Entry, Progress, Task, Started, Kept, Status, Free, CallState, NotCalled, Out, Got, Receipt, Keep, put, CoreJob, Hold, State}
-use Rattle.core_model.specs.Operations.{leaf_of, op_in, place_of}
+use Rattle.core_model.specs.Operations.{leaf_of, op_in, place_of, reply_at, value_under, IsReceipt, Place}
 use Rattle.core_model.specs.Invariant.Tasks.{TaskFits}
 use Rattle.core_model.specs.Events.{value_in, Needs}
 use Rattle.core_model.specs.Invariant.Statuses.{is_taken_by}
 use Rattle.core_model.specs.Invariant.Hold.{is_published, HoldInvariant}
 use Rattle.core_model.proofs.Inductive.Nodes.{HoldersFit}
 use Rattle.core_model.proofs.Inductive.Ticks.{stamps}
-use Rattle.core_model.proofs.Inductive.Book.{StatusFits, booked_by, valued_by, value_due}
+use Rattle.core_model.proofs.Inductive.Book.{StatusFits, booked_by, valued_by}
 use Rattle.core_model.proofs.Inductive.Parts.{InductiveParts}
 use Rattle.core_model.proofs.InvariantLemmas.Puts.{put_at, put_other}
 use Rattle.core_model.proofs.InvariantLemmas.FinishTasks.{go_on}
@@ -30,11 +32,11 @@ kept_hold workers status call w None other h = tt
 kept_hold workers status call w (Some hd) other h = (grind (arith, nat_tests, h.0), h.1, h.2, h.3, h.4, h.5, h.6, h.7)
 
 -- a leaf that calls has its value from a call that is got
-got : (work : ℕ → ℕ) (a : Act) (c : CallState) (v : ℕ) → value_in work a c ≡ Some v → op_in a ≢ None → (r : Receipt) × (c ≡ Got r)
-got work (Work k) c v e f = absurd (f refl)
-got work (Call op) NotCalled v e f = cc
-got work (Call op) Out v e f = cc
-got work (Call op) (Got r) v e f = (r, refl)
+got : (a : Act) (worked : Option ℕ) (c : CallState) (v : ℕ) → value_in a worked c ≡ Some v → op_in a ≢ None → (r : Receipt) × (c ≡ Got r)
+got (Work k) worked c v e f = absurd (f refl)
+got (Call op) worked NotCalled v e f = cc
+got (Call op) worked Out v e f = cc
+got (Call op) worked (Got r) v e f = (r, refl)
 
 -- which calls are in the book
 kept_booked : (node : ℕ → Progress) (task : ℕ → Task) (status : ℕ → Status) (call : ℕ → CallState) (b : Bool) (holder : ℕ → Option ℕ) (w n t m : ℕ) → HoldersFit task holder → task w ≡ Started n t
@@ -42,16 +44,26 @@ kept_booked : (node : ℕ → Progress) (task : ℕ → Task) (status : ℕ → 
     → booked_by (node m) (holder m) (put task w (Kept n t)) status (put call w NotCalled) b ≡ booked_by (node m) (holder m) task status call b
 kept_booked node task status call b holder w n t m h mine called = grind (arith, nat_tests, h.holds w m)
 
--- the value that is kept is the one that is due
-due_at : (job : CoreJob) (book : List (List Entry)) (n t v : ℕ) (a : Act) (st : Status) (c : CallState) (b : Bool) → st ≡ Free → StatusFits job book (Started n t) st c b
-    → value_in job.work a c ≡ Some v → Some v ≡ value_due job.work a (place_of book (leaf_of (job.plan.kind n)))
-due_at job book n t v (Work k) st c b free h e = sym e
-due_at job book n t v (Call op) st c b free h e = grind arith
+-- a reply that a receipt tells is that of the entry
+told_reply : (p : Option Place) (r : Receipt) → IsReceipt p r → Some (value_of r.reply) ≡ reply_at p
+told_reply None r is = absurd is
+told_reply (Some place) r is = rw is refl
+
+-- the value that is kept is the one that the leaf has under the book
+kept_under : (job : CoreJob) (book : List (List Entry)) (n t v : ℕ) (a : Act) (st : Status) (c : CallState) (b : Bool) → st ≡ Free → job.act (leaf_of (job.plan.kind n)) ≡ a
+    → StatusFits job book (Started n t) st c b → value_in a (value_under job book (leaf_of (job.plan.kind n))) c ≡ Some v
+    → value_under job book (leaf_of (job.plan.kind n)) ≡ Some v
+kept_under job book n t v (Work k) st c b free act h e = e
+kept_under job book n t v (Call op) Free NotCalled b free act h e = absurd cc
+kept_under job book n t v (Call op) Free Out b free act h e = absurd h
+kept_under job book n t v (Call op) Free (Got r) b free act h e =
+    call_value job book (leaf_of (job.plan.kind n)) op act ∙ sym (told_reply (place_of book (leaf_of (job.plan.kind n))) r h.2) ∙ e
+kept_under job book n t v (Call op) _ c b free act h e = absurd cc
 
 -- and so by the number of the leaf
-due_for : (job : CoreJob) (book : List (List Entry)) (n u v : ℕ) → job.plan.kind n ≡ Some (LeafNode u)
-    → Some v ≡ value_due job.work (job.act (leaf_of (job.plan.kind n))) (place_of book (leaf_of (job.plan.kind n))) → Some v ≡ value_due job.work (job.act u) (place_of book u)
-due_for job book n u v leaf e = rw leaf at e
+under_for : (job : CoreJob) (book : List (List Entry)) (n u v : ℕ) → job.plan.kind n ≡ Some (LeafNode u)
+    → value_under job book (leaf_of (job.plan.kind n)) ≡ Some v → value_under job book u ≡ Some v
+under_for job book n u v leaf e = rw leaf at e
 
 -- which other leaves have their values
 kept_valued : (node : ℕ → Progress) (task : ℕ → Task) (holder : ℕ → Option ℕ) (w n t m : ℕ) → HoldersFit task holder → task w ≡ Started n t → m ≢ n
@@ -77,9 +89,9 @@ keep_keeps job s w n t v laws below h needs =
       hold = kept_hold job.workers s.status s.call w s.hold (not_out job s.book (s.task w) (s.status w) (s.call w) (is_taken_by s.hold w) needs.0 (h.statuses w)) h.hold;
       book = same_book job s (stamps s.node s.task h.holder) (stamps s.node (put s.task w (Kept n t)) h.holder) same h.book;
       booked = λ m u leaf call. h.booked m u leaf call ∙ sym (kept_booked s.node s.task s.status s.call (is_published s.hold) h.holder w n t m h.tasks.holders mine
-          (λ e. got job.work (job.act (leaf_of (job.plan.kind n))) (s.call w) v needs.2 (rw (← e, leaf) call)));
+          (λ e. got (job.act (leaf_of (job.plan.kind n))) (value_under job s.book (leaf_of (job.plan.kind n))) (s.call w) v needs.2 (rw (← e, leaf) call)));
       values = λ m u leaf k. elim (cases_eq m n) [
-        | inl q ↦ put_at s.value n m (Some v) q ∙ due_for job s.book n u v (rw q at leaf) (due_at job s.book n t v (job.act (leaf_of (job.plan.kind n))) (s.status w) (s.call w) (is_taken_by s.hold w) needs.0 (rw mine at (h.statuses w)) needs.2)
-        | inr q ↦ put_other s.value n m (Some v) q ∙ h.values m u leaf (sym (kept_valued s.node s.task h.holder w n t m h.tasks.holders mine q) ∙ k)
+        | inl q ↦ (v, put_at s.value n m (Some v) q, under_for job s.book n u v (rw q at leaf) (kept_under job s.book n t v (job.act (leaf_of (job.plan.kind n))) (s.status w) (s.call w) (is_taken_by s.hold w) needs.0 refl (rw mine at (h.statuses w)) needs.2))
+        | inr q ↦ let is = h.values m u leaf (sym (kept_valued s.node s.task h.holder w n t m h.tasks.holders mine q) ∙ k) in (is.0, put_other s.value n m (Some v) q ∙ is.1, is.2)
       ];
     }

@@ -12,7 +12,6 @@ use Rattle.core_model.specs.Choice.{choice_by, choice}
 use Rattle.core_model.specs.Invariant.ReadyLists.{ReadyListsInvariant}
 use Rattle.core_model.specs.Measure.{total, measure, node_cost, worker_cost, leaf_cost, first_cost, call_cost, one_if, one_if_call, call_count}
 use Rattle.core_model.proofs.ChoiceLemmas.Ready.{not_under}
-use Rattle.core_model.proofs.ChoiceLemmas.Choices.{choice_needs}
 use Rattle.core_model.proofs.MeasureLemmas.Jobs.{claim_lowers, start_lowers, open_right_lowers, open_left_lowers, open_first_lowers, open_second_lowers, end_lowers, arrive_first_lowers, arrive_second_lowers, finish_leaf_lowers, finish_seq_lowers, finish_par_lowers}
 use Rattle.core_model.proofs.MeasureLemmas.Gate.{keep_lowers, post_lowers, win_lowers, take_lowers, publish_lowers, answer_lowers, release_lowers, leave_lowers}
 
@@ -50,10 +49,9 @@ pub wins_pending : (job : CoreJob) (s : CoreState) (w : ℕ) → Needs job s.sta
 wins_pending job s w needs chosen =
     by_pending job s w (s.state.status w) (sym (not_under job s w s.state.hold (λ h e. (let f = sym needs.2 ∙ e in absurd cc))) ∙ chosen) needs.0
 
-pub turn_lowers : (job : CoreJob) (s : CoreState) (w : ℕ) (event : Event) (new : State) → IsPlan job.plan → w < job.workers → InductiveParts job s.state → ReadyListsInvariant job.workers s.state.node s.ready
-    → choice job s w ≡ Some event → Does job s.state w event new → measure job new < measure job s.state
-turn_lowers job s w event new laws below h lists chosen does =
-    let needs = choice_needs job s w event laws below h lists chosen in
+pub turn_lowers : (job : CoreJob) (s : CoreState) (w : ℕ) (event : Event) (new : State) → IsPlan job.plan → w < job.workers → InductiveParts job s.state
+    → choice job s w ≡ Some event → Needs job s.state w event → Does job s.state w event new → measure job new < measure job s.state
+turn_lowers job s w event new laws below h chosen needs does =
     event_lowers job s.state w event new laws below h needs
     (λ win. wins_pending job s w (rw win at needs) (rw win at chosen)) does
 

@@ -1,5 +1,5 @@
 -- The report of a run that has ended is lawful.
-use Rattle.std.proofs.Common.{ℕ, ◌≡◌, ◌<◌, Option, Some, None, List, length, map, Contains, refl, ap}
+use Rattle.std.proofs.Common.{ℕ, ◌≡◌, ◌<◌, Option, Some, None, List, length, map, Contains, refl, sym, ap, ◌∙◌}
 use Rattle.std.specs.Prelude.{slice_get, IsSomeAnd}
 use Rattle.std.proofs.lemmas.Option.{get_or_from_slice_get, slice_get_within}
 use Rattle.seq_objects.specs.Objects.{value_of}
@@ -11,15 +11,15 @@ use Rattle.batch_history.specs.declared.row.Row.{Row}
 use Rattle.batch_history.specs.declared.report.Report.{Report}
 use Rattle.seq_objects.specs.Pairs.{IsEnumerationOf}
 use Rattle.batch_history.specs.Book.{flat}
-use Rattle.batch_history.specs.Lawful.{HasRows, KeepsOrder, HasCalls, KeepsTicks, HasValuesWith, LawfulWith}
-use Rattle.batch_history.specs.Operations.{act_of, op_in, op_of}
+use Rattle.batch_history.specs.Lawful.{HasRows, KeepsOrder, HasCallsWith, KeepsTicks, HasValuesWith, LawfulWith}
+use Rattle.batch_history.specs.Operations.{act_of, op_in, op_of, source_of, value_from}
 use Rattle.sp_order.specs.Sources.{IsCallLeaf}
 use Rattle.batch_history.proofs.ActLemmas.{called_as}
 use Rattle.core_model.specs.Reports.{IsRowOf, IsReportOf}
 use Rattle.core_model.proofs.ReportLemmas.EndedRuns.{IsEnded}
 use Rattle.core_model.proofs.ReportLemmas.RowTicks.{row_starts_first, ticks_each_once}
 use Rattle.core_model.proofs.ReportLemmas.RowOrder.{IsRowAt, row_at, before_ended, alone_ended}
-use Rattle.core_model.proofs.ReportLemmas.RowCalls.{contained, calls, call_in, worker_is, entry_earlier, work_valued, call_valued}
+use Rattle.core_model.proofs.ReportLemmas.RowCalls.{contained, calls, call_in, worker_is, entry_earlier, row_valued, call_valued}
 use Rattle.seq_objects.proofs.Elements.{each_so, each_mapped, each_at}
 
 -- what is found in a choice
@@ -71,7 +71,7 @@ module _ (work : ℕ → ℕ) (tree : Tree) (given : JobValue) (workers : ℕ) (
   -- an entry is that of a leaf that calls
   entry_calls : (e : Entry) → Contains (flat s.book) e → IsCallLeaf given.acts e.leaf
   entry_calls e there =
-      let call = called_as value s.book e.leaf e.op (each_at (λ (x : Entry). op_of value s.book x.leaf ≡ Some x.op) (flat s.book) e h.parts.book.operations there) in
+      let call = called_as work value s.book e.leaf e.op (each_at (λ (x : Entry). op_of work value s.book x.leaf ≡ Some x.op) (flat s.book) e h.parts.book.operations there) in
       (call.0, call.1.0)
 
   -- the leaves of the book
@@ -86,7 +86,7 @@ module _ (work : ℕ → ℕ) (tree : Tree) (given : JobValue) (workers : ℕ) (
   }
 
   -- the calls
-  has_calls : HasCalls value report
+  has_calls : HasCallsWith work value report
   has_calls = record {
     leaves = rw r.history calls_each_once;
     operations = rw r.history h.parts.book.operations;
@@ -106,9 +106,9 @@ module _ (work : ℕ → ℕ) (tree : Tree) (given : JobValue) (workers : ℕ) (
   -- the values
   has_values : HasValuesWith work value report
   has_values = record {
-    work = λ leaf steps act row is.
-        work_valued job (leaves tree) s h leaf steps row (does leaf (Work steps) act)
-        (row_of leaf row is);
+    work = λ leaf steps act row is. rw r.history
+        (sym (ap (λ (a : Act). value_from work s.book a (source_of given leaf) leaf) (does leaf (Work steps) act))
+        ∙ row_valued job (leaves tree) s h leaf row (row_of leaf row is));
     calls = rw r.history (each_so (Contains (flat s.book)) (λ e. (row : Row) → slice_get report.rows e.leaf ≡ Some row → row.value ≡ value_of e.reply)
         (λ e there row is. call_valued job (leaves tree) s h e (entry_calls e there).0 row (does e.leaf (Call (entry_calls e there).0) (entry_calls e there).1) there
         (row_of e.leaf row is))

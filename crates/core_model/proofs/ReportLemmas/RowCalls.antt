@@ -4,17 +4,16 @@ use Rattle.std.specs.Prelude.{slice_get}
 use Rattle.std.specs.List.{AllByRecursion}
 use Rattle.std.proofs.lemmas.List.Elements.{recursion_from_All, All-contains_itself}
 use Rattle.seq_objects.specs.Objects.{value_of}
-use Rattle.core_model.proofs.Words.{Act, Work, Call, Op, Entry, Ran, CoreJob, State, is_done}
+use Rattle.core_model.proofs.Words.{Call, Op, Entry, Ran, CoreJob, State, is_done}
 use Rattle.batch_history.specs.Book.{flat}
 use Rattle.batch_history.specs.declared.row.Row.{Row}
-use Rattle.core_model.specs.Operations.{op_in, op_of, IsCall, Place}
-use Rattle.core_model.proofs.BookLemmas.Operations.{is_call}
-use Rattle.core_model.specs.Invariant.Values.{IsValue}
+use Rattle.core_model.specs.Operations.{op_in, op_of, place_of, reply_at, value_under, IsCall, Place}
+use Rattle.core_model.proofs.BookLemmas.Operations.{is_call, call_value}
 use Rattle.core_model.specs.Invariant.Membership.{IsBooked}
 use Rattle.seq_objects.proofs.Elements.{each_at}
 use Rattle.batch_history.proofs.BookLemmas.Books.{found_in_book}
 use Rattle.core_model.proofs.ReportLemmas.EndedRuns.{IsEnded}
-use Rattle.core_model.proofs.BookLemmas.EntryPlaces.{leaves_of, contains_leaf, in_flat, entry_placed, entry_there, one_entry}
+use Rattle.core_model.proofs.BookLemmas.EntryPlaces.{leaves_of, contains_leaf, in_flat, entry_placed, entry_there}
 use Rattle.core_model.proofs.ReportLemmas.OneReport.{same_ran}
 use Rattle.core_model.proofs.ReportLemmas.RowOrder.{IsRowAt}
 use Rattle.std.proofs.lemmas.Option.{same_Some}
@@ -68,20 +67,18 @@ module _ (job : CoreJob) (total : ℕ) (s : State) (h : IsEnded job total s) whe
       let batch_is = ap (λ (p : Place). p.batch) place in
       omega (arith, early.2, batch_is, placed.in_batch, placed'.in_batch)
 
-  -- the value of the row of a leaf is as its act says
-  value_at : (leaf : ℕ) (act : Act) (row : Row) → job.act leaf ≡ act → IsRowAt job total s leaf row → IsValue job.work s.book leaf act row.value
-  value_at leaf act row is at =
+  -- the value of the row of a leaf is the one that the leaf has under the book
+  pub row_valued : (leaf : ℕ) (row : Row) → IsRowAt job total s leaf row → value_under job s.book leaf ≡ Some row.value
+  row_valued leaf row at =
       let done : is_done (s.node (job.plan.node_of leaf)) ≡ true = rw at.ran refl in
       let value = h.parts.values.values (job.plan.node_of leaf) leaf (h.kind leaf at.low) (inl done) in
-      let same = same_Some value.0 row.value (sym value.1 ∙ at.value) in
-      subst (IsValue job.work s.book leaf act) same (rw is at value.2)
+      value.2 ∙ sym value.1 ∙ at.value
 
-  -- the value of a leaf that works
-  pub work_valued : (leaf steps : ℕ) (row : Row) → job.act leaf ≡ Work steps → IsRowAt job total s leaf row → row.value ≡ job.work steps
-  work_valued leaf steps row is at = value_at leaf (Work steps) row is at
-
-  -- and of one that calls
+  -- that of a leaf that calls is the value of its reply
   pub call_valued : (e : Entry) (own : Op) (row : Row) → job.act e.leaf ≡ Call own → Contains (flat s.book) e → IsRowAt job total s e.leaf row → row.value ≡ value_of e.reply
   call_valued e own row is there at =
-      let value = value_at e.leaf (Call own) row is at in
-      value.3 ∙ ap (λ (x : Entry). value_of x.reply) (one_entry s.book value.0 e h.parts.book.leaves value.1 there value.2)
+      let placed = entry_there s.book e h.parts.book.leaves there in
+      let reply : reply_at (place_of s.book e.leaf) ≡ Some (value_of e.reply) =
+      ap reply_at placed.1.is ∙ ap (λ (x : Entry). Some (value_of x.reply)) placed.1.entry in
+      let value : Some row.value ≡ Some (value_of e.reply) = sym (row_valued e.leaf row at) ∙ call_value job s.book e.leaf own is ∙ reply in
+      same_Some row.value (value_of e.reply) value

@@ -54,7 +54,7 @@ module _ (job : CoreJob) (laws : IsPlan job.plan) (sources : HasSources job) whe
       → (new : CoreState) × IsStep job s w event new
   step_some s w event among inv chosen =
       let parts = parts_carried job s.state inv.parts in
-      let new = happens_some job s.state w event sources parts among (choice_needs job s w event laws among parts inv.lists chosen) in
+      let new = happens_some job s.state w event sources parts among (choice_needs job s w event laws sources among parts inv.lists chosen) in
       (record { state = new.0; ready = ready_after w event s.ready }, record { happens = new.1; lists = refl })
 
   -- and so does that of a turn that makes one
@@ -85,7 +85,7 @@ module _ (job : CoreJob) (laws : IsPlan job.plan) (sources : HasSources job) whe
       | inl done ↦ (s, over done)
       | inr going ↦ (
           let next = turn_some s robin below inv in
-          let fewer = turns_fewer job tree s next.0 robin laws plan (parts_carried job s.state inv.parts) inv.lists below going next.1 in
+          let fewer = turns_fewer job tree s next.0 robin laws sources plan (parts_carried job s.state inv.parts) inv.lists below going next.1 in
           let rest = robin_drives most next.0 ((robin + 1) % job.workers) (mod-lt (robin + 1) (omega (arith, below))) next.2 (omega (arith, few, fewer)) in
           (rest.0, by_robin going next.1 rest.1)
           )

@@ -120,7 +120,7 @@ module _ (job : CoreJob) (tree : Tree) (laws : IsPlan job.plan) (plan : IsPlanOf
 
   never_stuck : (s : CoreState) → Invariant job s → is_done (s.state.node 0) ≡ false → StoppedIdle s → NoLiveEvent job live s → ⊥
   never_stuck s h going idle none =
-      let some = some_live_turn job tree s live one laws plan (parts_carried job s.state h.parts) h.lists going below on idle in
+      let some = some_live_turn job tree s live one laws sources plan (parts_carried job s.state h.parts) h.lists going below on idle in
       let step = chosen_step job laws sources s some.0 (choice job s some.0) some.1 h refl some.3 in
       none some.0 some.2 step.0 step.2 step.3
 

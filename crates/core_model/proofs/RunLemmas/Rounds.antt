@@ -7,6 +7,7 @@ use Rattle.std.proofs.lemmas.Option.{same_Some}
 use Rattle.std.proofs.Math.Nat.{add-mod_right, mod-add-mod, mod-eq_of_lt, mul-le-mul_right}
 use Rattle.core_model.proofs.Words.{Tree, IsPlan, IsPlanOf, Event, CoreJob, CoreState, is_done}
 use Rattle.core_model.proofs.Inductive.Parts.{InductiveParts}
+use Rattle.core_model.specs.LeafSources.{HasSources}
 use Rattle.core_model.specs.Invariant.ReadyLists.{ReadyListsInvariant}
 use Rattle.core_model.specs.Measure.{measure}
 use Rattle.core_model.specs.Choice.{choice, least_below}
@@ -105,15 +106,15 @@ room f g k i j less few =
     let b : (f + 1) * k ≡ f * k + k = omega arith in
     omega (arith, a, b, few)
 
-module _ (job : CoreJob) (tree : Tree) (old new : CoreState) (robin : ℕ) (laws : IsPlan job.plan) (plan : IsPlanOf job.plan tree) (parts : InductiveParts job old.state)
+module _ (job : CoreJob) (tree : Tree) (old new : CoreState) (robin : ℕ) (laws : IsPlan job.plan) (sources : HasSources job) (plan : IsPlanOf job.plan tree) (parts : InductiveParts job old.state)
     (lists : ReadyListsInvariant job.workers old.state.node old.ready) (below : robin < job.workers) (going : is_done (old.state.node 0) ≡ false) where
   fewer_by : (o : Option Event) → choice job old robin ≡ o → IsTurnOf job old robin o new → turns_left job new ((robin + 1) % job.workers) < turns_left job old robin
   fewer_by None none turn =
-      let some = some_turn job tree old laws plan parts lists going in
+      let some = some_turn job tree old laws sources plan parts lists going in
       let nearer = nearer job old robin below none some.0 some.1 some.2 in
       rw turn (omega (arith, nearer))
   fewer_by (Some event) chosen turn =
-      let less = turn_lowers job old robin event new.state laws below parts lists chosen turn.happens.does in
+      let less = turn_lowers job old robin event new.state laws below parts chosen turn.happens.needs turn.happens.does in
       let few = few_idle (acts_after job new ((robin + 1) % job.workers)) job.workers (least_below (acts_after job new ((robin + 1) % job.workers)) job.workers) refl in
       room (measure job new.state) (measure job old.state) (job.workers + 1) (idle_turns job new ((robin + 1) % job.workers)) (idle_turns job old robin) less (omega (arith, few))
 

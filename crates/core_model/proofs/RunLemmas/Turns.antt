@@ -30,7 +30,7 @@ turns_are_counted job first last (step ∷ steps) laws h lists run =
     let rest : length steps + measure job last.state ≤ measure job run.0.state =
     turns_are_counted job run.0 last steps laws (step_parts job first run.0 step.worker step.event laws h run.2) (step_lists job first run.0 step.worker step.event laws h lists run.2) run.3 in
     let less : measure job run.0.state < measure job first.state =
-    turn_lowers job first step.worker step.event run.0.state laws run.2.happens.worker_in h (lists_fit job.workers first.state.node first.ready lists) run.1 run.2.happens.does in
+    turn_lowers job first step.worker step.event run.0.state laws run.2.happens.worker_in h run.1 run.2.happens.needs run.2.happens.does in
     omega (arith, rest, less)
 
 opening_turns : (job : CoreJob) (s : CoreState) (steps : List Step) → IsPlan job.plan → job.plan.kind 0 ≢ None → 0 < job.workers → TurnsReach job opening_core steps s

@@ -2,7 +2,7 @@
 use Rattle.seq_objects.specs.Stores.{opening_store}
 use Rattle.batch_history.specs.Book.{IsBatch, IsLegal, flat}
 use Rattle.core_model.specs.Invariant.Ticks.{HasEnd, HasStart}
-use Rattle.core_model.specs.Operations.{IsCall, Place, op_of, place_of}
+use Rattle.core_model.specs.Operations.{IsCall, Place, op_of, origin_of, place_of}
 use Rattle.core_model.specs.Serving.{served}
 use Rattle.core_model.specs.State.{CoreJob, State}
 use Rattle.seq_objects.specs.Pairs.{AreDistinct}
@@ -21,9 +21,9 @@ pub record BookInvariant (job : CoreJob) (s : State) : Type 0 where
   -- the leaves are distinct, and each is a calling leaf with its operation under this book
   pub leaves : AreDistinct (map (λ entry. entry.leaf) (flat s.book))
   pub operations : AllByRecursion (λ entry. op_of job s.book entry.leaf ≡ Some entry.op) (flat s.book)
-  -- the entry of a leaf's source stands in an earlier batch
-  pub sources : (leaf source : ℕ) (later : Place) → job.source leaf ≡ Some source → place_of s.book leaf ≡ Some later
-      → (earlier : Place) × (place_of s.book source ≡ Some earlier) × (earlier.batch < later.batch)
+  -- the entry from which the value of a leaf's source comes stands in an earlier batch
+  pub sources : (leaf source origin : ℕ) (later : Place) → job.source leaf ≡ Some source → origin_of job source ≡ Some origin
+      → place_of s.book leaf ≡ Some later → (earlier : Place) × (place_of s.book origin ≡ Some earlier) × (earlier.batch < later.batch)
   -- real-time order: if calling leaf `u` ended before leaf `v` started and `v` has an entry, `u` has one in an earlier
   -- batch
   pub in_order : (n m u v w x a b d : ℕ) → job.plan.kind n ≡ Some (LeafNode u) → job.plan.kind m ≡ Some (LeafNode v) → IsCall job u

@@ -2,7 +2,6 @@
 //! operation a leaf calls, and how many entries there can be. Each law is the contract of an empty function.
 ghost use Rattle.std.specs.Prelude.{◌≡◌, ◌≢◌, ℕ, ◌<◌, ◌≤◌, ◌+◌, ◌⊎◌, true, false, None, Some, List, [], ◌∷◌, ◌++◌, length, map, Contains};
 ghost use Rattle.std.specs.List.{AllByRecursion};
-ghost use Rattle.seq_objects.specs.Objects.{value_of};
 ghost use Rattle.seq_objects.specs.Pairs.{AreDistinct};
 ghost use Rattle.seq_objects.specs.declared.act.Act.TheVariants.{Call};
 ghost use Rattle.seq_objects.specs.declared.op.Op.{Op};
@@ -22,9 +21,9 @@ ghost use Rattle.core_model.specs.Entries.{entries_of, StandsAt, IsUnserved};
 ghost use Rattle.core_model.specs.Events.{Happens, HasStarted};
 ghost use Rattle.core_model.specs.Invariant.{Parts};
 ghost use Rattle.core_model.specs.Invariant.Statuses.{is_taken_by};
-ghost use Rattle.core_model.specs.LeafSources.{HasReplied, HasSources};
+ghost use Rattle.core_model.specs.LeafSources.{HasItsValue, HasSources};
 ghost use Rattle.core_model.specs.Measure.{call_count};
-ghost use Rattle.core_model.specs.Operations.{IsCall, Place, op_of, or_else, place_in, place_of, receipt_for};
+ghost use Rattle.core_model.specs.Operations.{IsCall, Place, op_of, or_else, origin_of, place_in, place_of, receipt_for, value_under};
 ghost use Rattle.core_model.specs.State.{CoreJob, State, core_job_with};
 ghost use Rattle.core_model.specs.Waits.{task_place};
 
@@ -81,40 +80,46 @@ pub fn receipt_is_of_the_own_entry()
         × StandsAt state.book receipt.batch receipt.place place.entry }
 {}
 
-/// A longer book keeps the operation of a leaf. A leaf that has an operation under a book calls, and the book has an
-/// entry of its source, if it has one.
+/// A longer book keeps the value and the operation of a leaf. A leaf that has an operation under a book calls, and its
+/// source, if it has one, has a value under the book.
 pub fn operations_stay()
+    ensures values { (job : CoreJob) (book : List (List Entry)) (batch : List Entry) (leaf value : ℕ)
+        → value_under job book leaf ≡ Some value → value_under job (book ++ batch ∷ []) leaf ≡ Some value }
     ensures longer { (job : CoreJob) (book : List (List Entry)) (batch : List Entry) (leaf : ℕ) (op : Op)
         → op_of job book leaf ≡ Some op → op_of job (book ++ batch ∷ []) leaf ≡ Some op }
     ensures calls { (job : CoreJob) (book : List (List Entry)) (leaf : ℕ) (op : Op)
         → op_of job book leaf ≡ Some op → IsCall job leaf }
     ensures source { (job : CoreJob) (book : List (List Entry)) (leaf source : ℕ) (op : Op)
         → op_of job book leaf ≡ Some op → job.source leaf ≡ Some source
-        → (place : Place) × (place_of book source ≡ Some place) }
+        → (value : ℕ) × (value_under job book source ≡ Some value) }
 {}
 
-/// Once a leaf has started, its source has replied: it is done, its entry stands in the book, and its value is that of
-/// the entry's reply. So no batch gathers a call before the book has what the call's operation depends on.
+/// Once a leaf has started, its source has its value: it is done, and its node has the value that it has under the book.
+/// So no batch gathers a call, and no leaf works, before the book has what the call's operation or the work depends on.
 pub fn started_leaf_has_its_source()
     ensures { (job : CoreJob) (state : State) (worker node leaf source : ℕ) → HasSources job
         → Parts job state
         → HasStarted job state worker node leaf → job.source leaf ≡ Some source
-        → HasReplied job state source }
+        → HasItsValue job state source }
 {}
 
-/// The entry of a leaf's source stands in an earlier batch than the leaf's own. The leaf's entry has the operation of
-/// its act, with the low 32 bits of the value of the source's reply as its argument.
+/// The entry of a leaf with a source has the operation of its act, with the low 32 bits of the value of the source as its
+/// argument. The entry from whose reply this value comes, if it comes from one, stands in an earlier batch than the
+/// leaf's own.
 pub fn sources_come_first()
-    ensures { (job : CoreJob) (state : State) (leaf source : ℕ) (later : Place)
+    ensures argument { (job : CoreJob) (state : State) (leaf source : ℕ) (later : Place)
         → Parts job state → job.source leaf ≡ Some source
         → place_of state.book leaf ≡ Some later
-        → (earlier : Place) × (place_of state.book source ≡ Some earlier)
-        × (earlier.batch < later.batch)
-        × (op : Op) × (job.act leaf ≡ Call op)
-        × (later.entry.op ≡ with_value op (value_of earlier.entry.reply)) }
+        → (value : ℕ) × (value_under job state.book source ≡ Some value)
+        × (op : Op) × (job.act leaf ≡ Call op) × (later.entry.op ≡ with_value op value) }
+    ensures earlier { (job : CoreJob) (state : State) (leaf source origin : ℕ) (later : Place)
+        → Parts job state → job.source leaf ≡ Some source → origin_of job source ≡ Some origin
+        → place_of state.book leaf ≡ Some later
+        → (earlier : Place) × (place_of state.book origin ≡ Some earlier) × (earlier.batch < later.batch) }
 {}
 
-/// In the model of a job each source of a leaf is a calling leaf, and by a series its node is before the leaf's.
+/// In the model of a job each source of a leaf is a leaf whose value it may take, and by a series its node is before the
+/// leaf's.
 pub fn job_has_its_sources()
     ensures { (work : ℕ → ℕ) (job : JobValue) (workers : ℕ) → IsJob job
         → HasSources (core_job_with work job workers) }

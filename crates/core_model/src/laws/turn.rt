@@ -26,12 +26,12 @@ use sp_order::laws::plan_has_sides;
 /// a task has a next act.
 pub fn next_is_event()
     ensures event { (job : CoreJob) (state : State) (worker : ℕ) (act : Next) → IsPlan job.plan
-        → Parts job state
+        → HasSources job → Parts job state
         → state.status worker ≡ Free
         → next_act job (state.task worker) (state.call worker) ≡ Some act
         → IsNextEvent job state worker act }
     ensures some { (job : CoreJob) (state : State) (worker : ℕ) → IsPlan job.plan
-        → Parts job state
+        → HasSources job → Parts job state
         → state.status worker ≡ Free
         → state.task worker ≢ Idle
         → next_act job (state.task worker) (state.call worker) ≢ None }
@@ -40,7 +40,7 @@ pub fn next_is_event()
 /// The event that a turn chooses has its needs met.
 pub fn choice_has_its_needs()
     ensures { (job : CoreJob) (state : CoreState) (worker : ℕ) (event : Event) → IsPlan job.plan
-        → worker < job.workers → Invariant job state
+        → HasSources job → worker < job.workers → Invariant job state
         → choice job state worker ≡ Some event
         → Needs job state.state worker event }
 {}
@@ -48,7 +48,7 @@ pub fn choice_has_its_needs()
 /// If a worker's turn chooses no event, no event of this worker has its needs met.
 pub fn no_choice_has_no_event()
     ensures { (job : CoreJob) (state : CoreState) (worker : ℕ) → IsPlan job.plan
-        → worker < job.workers → Invariant job state
+        → HasSources job → worker < job.workers → Invariant job state
         → choice job state worker ≡ None
         → (event : Event) → Needs job state.state worker event → ⊥ }
 {}
@@ -65,7 +65,7 @@ pub fn events_are_in_range()
 /// claim removes just that end.
 pub fn claimed_node_leaves_an_end()
     ensures { (job : CoreJob) (state : CoreState) (worker node : ℕ) → IsPlan job.plan
-        → worker < job.workers → Invariant job state
+        → HasSources job → worker < job.workers → Invariant job state
         → choice job state worker ≡ Some (Claim node)
         → LeavesAnEnd state.ready worker node }
 {}
@@ -124,7 +124,7 @@ pub fn some_live_turn_makes_an_event()
 /// The event of a turn lowers the measure, which bounds the events left.
 pub fn turns_lower_measure()
     ensures { (job : CoreJob) (state : CoreState) (worker : ℕ) (event : Event) (new : State)
-        → IsPlan job.plan
+        → IsPlan job.plan → HasSources job
         → worker < job.workers → Invariant job state
         → choice job state worker ≡ Some event
         → Does job state.state worker event new

@@ -1,5 +1,8 @@
-use Rattle.core_model.proofs.BookLemmas.Operations.{op_kept, is_call, of_source}
+use Rattle.core_model.proofs.BookLemmas.Operations.{op_kept, value_kept, is_call, of_source}
 use Rattle.core_model.proofs.laws.book.operations_stay.Goals as goal
+
+pub returns-clause-values : goal.returns-clause-values
+returns-clause-values c job book batch leaf value is = value_kept job book batch leaf value is
 
 pub returns-clause-longer : goal.returns-clause-longer
 returns-clause-longer c job book batch leaf op is = op_kept job book batch leaf op is

@@ -8,6 +8,6 @@ use Rattle.core_model.proofs.laws.turn.some_turn_makes_an_event.Goals as goal
 pub returns : goal.returns
 returns c job tree state plan sources inv going =
     let laws = c.plan_has_sides.ensures job.plan tree plan in
-    let some = some_turn job tree state laws plan (parts_carried job state.state inv.parts) inv.lists going in
+    let some = some_turn job tree state laws sources plan (parts_carried job state.state inv.parts) inv.lists going in
     let step = chosen_step job laws sources state some.0 (choice job state some.0) some.1 inv refl some.2 in
     (some.0, some.1, step.0, step.1, step.2, step.3)

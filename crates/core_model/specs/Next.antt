@@ -35,7 +35,7 @@ act_of_half kind p = in_parallel kind (λ left right. acts.Open left Idle (OpenP
 
 -- node `n`, a leaf with this act, has started: work has its value at once, a call once it is answered
 abbrev pub act_of_started : Act → CallState → ℕ → ℕ → ℕ → Option Next
-act_of_started (Work steps) call n start leaf = Some (acts.Spin n start steps)
+act_of_started (Work steps) call n start leaf = Some (acts.Spin n start leaf steps)
 act_of_started (Call op) NotCalled n start leaf = Some (acts.Call n start leaf op)
 act_of_started (Call op) Out n start leaf = None
 act_of_started (Call op) (Got receipt) n start leaf = Some (acts.Got n start receipt.reply)
@@ -88,7 +88,7 @@ worked job book n = unwrap_or (value_under job book (leaf_of (job.plan.kind n)))
 abbrev pub event_of : (ℕ → ℕ) → (ℕ → ℕ) → Next → Event
 event_of worked mark (acts.Start n leaf) = Start n
 event_of worked mark (acts.Open n task event) = event
-event_of worked mark (acts.Spin n start steps) = Keep n start (worked n)
+event_of worked mark (acts.Spin n start leaf steps) = Keep n start (worked n)
 event_of worked mark (acts.Call n start leaf op) = Post n start
 event_of worked mark (acts.Got n start reply) = Keep n start (value_of reply)
 event_of worked mark (acts.End n start) = End n start
@@ -103,7 +103,7 @@ event_in job s act = event_of (worked job s.book) s.mark act
 abbrev pub kind_of_act : Next → EventKind
 kind_of_act (acts.Start n leaf) = a_start
 kind_of_act (acts.Open n task event) = an_open
-kind_of_act (acts.Spin n start steps) = a_keep
+kind_of_act (acts.Spin n start leaf steps) = a_keep
 kind_of_act (acts.Call n start leaf op) = a_post
 kind_of_act (acts.Got n start reply) = a_keep
 kind_of_act (acts.End n start) = an_end
@@ -114,7 +114,7 @@ kind_of_act (acts.Arrive p left right n) = an_arrive
 abbrev pub task_left : ℕ → (ℕ → ℕ) → Next → Task
 task_left tick mark (acts.Start n leaf) = Started n tick
 task_left tick mark (acts.Open n task event) = task
-task_left tick mark (acts.Spin n start steps) = Kept n start
+task_left tick mark (acts.Spin n start leaf steps) = Kept n start
 task_left tick mark (acts.Call n start leaf op) = Started n start
 task_left tick mark (acts.Got n start reply) = Kept n start
 task_left tick mark (acts.End n start) = Ended n start tick

@@ -27,10 +27,12 @@ pub enum Next {
         task: Task,
         event: Event,
     },
-    /// The started leaf does this many steps of work, and keeps their value.
+    /// The started leaf works on its number, here `steps`, and keeps the value of its work. Where the leaf has a source,
+    /// its number is the low 32 bits of the source's value, and 0 stands here.
     Spin {
         node: u32,
         start: u64,
+        leaf: u32,
         steps: u32,
     },
     /// The started leaf posts its call.
@@ -116,7 +118,12 @@ fn of_started(act: Act, call: CallState, node: u32, start: u64, leaf: u32) -> Op
     ensures { result ≡ act_of_started act call node start leaf }
 {
     match act {
-        Act::Work(steps) => Some(Next::Spin { node, start, steps }),
+        Act::Work(steps) => Some(Next::Spin {
+            node,
+            start,
+            leaf,
+            steps,
+        }),
         Act::Call(op) => match call {
             CallState::NotCalled => Some(Next::Call {
                 node,

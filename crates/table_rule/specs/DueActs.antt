@@ -1,9 +1,8 @@
 -- Which next act each call of the job side requires, by the act that is due, if there is one.
 use Rattle.std.specs.Prelude.{ℕ, ◌≡◌, Option as Maybe, None, Some}
-use Rattle.seq_objects.specs.Spin.{spin_of}
 use Rattle.seq_objects.specs.Objects.{value_of}
 use Rattle.seq_objects.specs.declared.op.Op.{Op}
-use Rattle.sp_order.specs.Sources.{with_value}
+use Rattle.sp_order.specs.Sources.{low_bits, with_value}
 use Rattle.core_model.specs.declared.next.Next.{Next}
 use Rattle.core_model.specs.declared.next.Next.TheVariants as acts
 use Rattle.table_rule.specs.declared.slot.OpRecord.{OpRecord}
@@ -19,20 +18,25 @@ abbrev pub IsOpenDue : Maybe Next → Type 0
 IsOpenDue (Some (acts.Open n task event)) = Unit {0}
 IsOpenDue _ = ⊥
 
--- a keep of this value: that of the leaf's work, where the leaves of work compute `work`, or that of the reply to its
--- call
-abbrev pub IsKeepDueWith : (ℕ → ℕ) → Maybe Next → ℕ → Type 0
-IsKeepDueWith work (Some (acts.Spin n start steps)) value = value ≡ work steps
-IsKeepDueWith work (Some (acts.Got n start reply)) value = value ≡ value_of reply
-IsKeepDueWith work _ value = ⊥
+-- The number of a leaf of work, from its own, the leaf's source and the source's value as told: the low 32 bits of a
+-- source's value, and while it is not told there is no number.
+abbrev pub number_told : ℕ → Maybe ℕ → Maybe ℕ → Maybe ℕ
+number_told steps None told = Some steps
+number_told steps (Some from) None = None
+number_told steps (Some from) (Some value) = Some (low_bits value)
 
--- the same where they spin
-abbrev pub IsKeepDue : Maybe Next → ℕ → Type 0
-IsKeepDue = IsKeepDueWith spin_of
+-- A keep of this value: that of the leaf's work, where the leaves of work compute `work`, on the leaf's number, or that
+-- of the reply to its call. The number is by the source of each leaf and what was told of the source of this one.
+abbrev pub IsKeepDueWith : (ℕ → ℕ) → (ℕ → Maybe ℕ) → Maybe ℕ → Maybe Next → ℕ → Type 0
+IsKeepDueWith work source told (Some (acts.Spin n start leaf steps)) value =
+    (number : ℕ) × (number_told steps (source leaf) told ≡ Some number) × (value ≡ work number)
+IsKeepDueWith work source told (Some (acts.Got n start reply)) value = value ≡ value_of reply
+IsKeepDueWith work source told _ value = ⊥
 
--- a look at the source of the leaf that is to call, by the source of each leaf: the leaf has one
+-- a look at the source of the leaf that is to call or to work, by the source of each leaf: the leaf has one
 abbrev pub IsSourceDue : (ℕ → Maybe ℕ) → Maybe Next → Type 0
 IsSourceDue source (Some (acts.Call n start leaf op)) = (from : ℕ) × (source leaf ≡ Some from)
+IsSourceDue source (Some (acts.Spin n start leaf steps)) = (from : ℕ) × (source leaf ≡ Some from)
 IsSourceDue source _ = ⊥
 
 -- The operation of a call, from that of the leaf's act, the leaf's source and the source's value as told: a source's

@@ -10,9 +10,9 @@ use Rattle.batch_history.specs.Book.{flat}
 use Rattle.core_model.specs.State.{CoreJob, State, opening_state}
 use Rattle.core_model.specs.Entries.{entries_of, StandsAt, IsUnserved}
 use Rattle.core_model.specs.Events.{Happens, HasStarted}
-use Rattle.core_model.specs.LeafSources.{HasReplied, HasSources}
+use Rattle.core_model.specs.LeafSources.{HasItsValue, HasSources}
 use Rattle.core_model.specs.Measure.{call_count}
-use Rattle.core_model.specs.Operations.{IsCall, Place, op_of, place_of, receipt_for}
+use Rattle.core_model.specs.Operations.{IsCall, Place, op_of, place_of, receipt_for, value_under}
 use Rattle.core_model.specs.Tasks.{is_done}
 use Rattle.core_model.specs.Invariant.Statuses.{is_taken_by}
 use Rattle.core_model.specs.Invariant.{Parts}
@@ -64,10 +64,11 @@ pub record Laws (job : CoreJob) : Type 0 where
       × (place_of s.book leaf ≡ Some place) × (receipt ≡ receipt_for place)
       × (place.entry ≡ record { leaf = leaf; worker = worker; op = op; reply = receipt.reply })
       × StandsAt s.book receipt.batch receipt.place place.entry
-  -- each source calls, and is before its leaf by a series; once the leaf has started, its source has replied
+  -- each source may be its leaf's, and is before it by a series; once the leaf has started, its source has its value
   pub sources : HasSources job
-  pub source : (s : State) (worker node leaf source : ℕ) → Parts job s → HasStarted job s worker node leaf → job.source leaf ≡ Some source → HasReplied job s source
-  -- a longer book keeps the operations and the places that the book has
+  pub source : (s : State) (worker node leaf source : ℕ) → Parts job s → HasStarted job s worker node leaf → job.source leaf ≡ Some source → HasItsValue job s source
+  -- a longer book keeps the values, the operations and the places that the book has
+  pub values : (book : List (List Entry)) (batch : List Entry) (leaf value : ℕ) → value_under job book leaf ≡ Some value → value_under job (book ++ batch ∷ []) leaf ≡ Some value
   pub operations : (book : List (List Entry)) (batch : List Entry) (leaf : ℕ) (op : Op) → op_of job book leaf ≡ Some op → op_of job (book ++ batch ∷ []) leaf ≡ Some op
   pub places : (book : List (List Entry)) (batch : List Entry) (leaf : ℕ) (place : Place) → place_of book leaf ≡ Some place → place_of (book ++ batch ∷ []) leaf ≡ Some place
   -- the number of a leaf that calls is below 2^32

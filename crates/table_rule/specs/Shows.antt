@@ -4,7 +4,6 @@ use mathlib.Core.Option.{Option, none, some}
 use lib.ListN.{get_elem?}
 use Rattle.std.specs.List.{AllByRecursion}
 use Rattle.atomic_table.specs.Table.{State as AtomicState}
-use Rattle.seq_objects.specs.Objects.{value_of}
 use Rattle.seq_objects.specs.Spin.{spin_of}
 use Rattle.seq_objects.specs.Pairs.{AreDistinct}
 use Rattle.batch_history.specs.Book.{flat}
@@ -14,7 +13,7 @@ use Rattle.core_model.specs.Settings.{job_of, job_with}
 use Rattle.core_model.specs.Words.{Entry, LeafNode}
 use Rattle.table_rule.specs.CoreWords.{Event, Task, Idle, Started, Status, Free, Pending, Executing, Served, CallState, NotCalled, Out, Got}
 use Rattle.core_model.specs.State.{CoreJob, CoreState, Hold, State}
-use Rattle.core_model.specs.LeafSources.{HasReplied}
+use Rattle.core_model.specs.LeafSources.{HasItsValue}
 use Rattle.core_model.specs.Operations.{op_of, Place}
 use Rattle.core_model.specs.Entries.{entries_of}
 use Rattle.core_model.specs.Measure.{call_count}
@@ -138,12 +137,12 @@ pub record SinceKnown (job : CoreJob) (s : State) (v : View) (w : ℕ) : Type 0 
   pub placed : (place : Place) → s.call w ≡ Out → task_place job s.book (s.task w) ≡ Some place → v.own.before ≤ place.batch
   pub waits : (since : ℕ) → v.own.after ≡ Some since → s.call w ≡ Out → WaitsSince job s w since
 
--- What was told for this task: it is `Started` at a leaf that has a source, the source has replied, and the number told
--- is its value.
+-- What was told for this task: it is `Started` at a leaf that has a source, the source has its value, and the number told
+-- is that value.
 abbrev pub IsTold : CoreJob → State → Task → ℕ → Type 0
 IsTold job s task value =
     (node : ℕ) × (start : ℕ) × (leaf : ℕ) × (source : ℕ) × (task ≡ Started node start) × (job.plan.kind node ≡ Some (LeafNode leaf))
-    × (job.source leaf ≡ Some source) × (replied : HasReplied job s source) × (value ≡ value_of replied.place.entry.reply)
+    × (job.source leaf ≡ Some source) × (has : HasItsValue job s source) × (value ≡ has.value)
 
 -- xs is a prefix of ys
 abbrev pub IsPrefix : {A : Type 0} → List A → List A → Type 0

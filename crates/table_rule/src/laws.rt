@@ -5,7 +5,6 @@ ghost use Rattle.std.specs.List.{AllByRecursion};
 ghost use mathlib.Core.Option.{some};
 ghost use lib.ListN.{get_elem?};
 ghost use Rattle.limits.specs.declared.TheConstants.{MOST_LEAVES};
-ghost use Rattle.seq_objects.specs.Objects.{value_of};
 ghost use Rattle.sp_order.specs.Jobs.{job_tree};
 ghost use Rattle.sp_order.specs.Precedence.{leaves};
 ghost use Rattle.core_model.specs.declared.setting.Setting.{Setting};
@@ -17,6 +16,7 @@ ghost use Rattle.table_rule.specs.Words.{stop_at};
 ghost use Rattle.core_model.specs.Entries.{StandsAt};
 ghost use Rattle.core_model.specs.Settings.{job_with};
 ghost use Rattle.core_model.specs.LeafSources.{HasSources};
+ghost use Rattle.core_model.specs.Operations.{value_under};
 ghost use Rattle.core_model.specs.State.{opening_state};
 ghost use Rattle.core_model.specs.Words.{Entry, LeafNode};
 ghost use Rattle.table_rule.specs.CoreWords.{Started};
@@ -79,7 +79,7 @@ pub fn entries_stay_where_they_stand()
 {}
 
 /// A number that `source_value` told a pass is the value of its source: the pass has started a leaf that has a source,
-/// an entry of the source stands in the book, and the number is the value of that entry's reply.
+/// and the number is the value that the source has under the book.
 pub fn told_values_are_those_of_sources()
     ensures { (work : ℕ → ℕ) (key : Setting) (t : TableState) (shown : ShownWith work key t) (id : ℕ) (v : View) (value : ℕ)
         → get_elem? t.views id ≡ some v
@@ -89,13 +89,8 @@ pub fn told_values_are_those_of_sources()
         × (v.own.task ≡ Started node start)
         × ((job_with work key).plan.kind node ≡ Some (LeafNode leaf))
         × ((job_with work key).source leaf ≡ Some source)
-        × (batch : ℕ) × (place : ℕ) × (entry : Entry)
-        × StandsAt shown.state.book batch place entry
-        × (entry.leaf ≡ source)
-        × (value ≡ value_of entry.reply) }
-{
-    entries_are_found_at_their_places();
-}
+        × (value_under (job_with work key) shown.state.book source ≡ Some value) }
+{}
 
 /// A table on which every worker's seat has no events shows the opening state. So a new table does: no leaf has run
 /// on it.

@@ -27,7 +27,7 @@ use Rattle.core_model.specs.declared.status.CallState.TheVariants.{NotCalled, Ou
 use Rattle.core_model.specs.declared.event.Event.{Event}
 use Rattle.core_model.specs.declared.event.Event.TheVariants.{Post, Win, Take, Answer, Release, Leave}
 use Rattle.core_model.specs.State.{put, CoreJob, Hold, State}
-use Rattle.core_model.specs.Operations.{leaf_of, op_from, op_of, IsCall, Place, place_of, IsReceipt, receipt_for}
+use Rattle.core_model.specs.Operations.{leaf_of, op_from, op_of, value_under, IsCall, Place, place_of, IsReceipt, receipt_for}
 use Rattle.core_model.specs.Events.{Happens, made, is_pending, new_hold}
 use Rattle.core_model.specs.Invariant.Statuses.{is_taken_by}
 use Rattle.core_model.specs.Invariant.{Parts}
@@ -54,7 +54,7 @@ use Rattle.table_rule.proofs.TableLemmas.Moved.{mine_of, moved, looked, found, m
 use Rattle.core_model.specs.Entries.{StandsAt}
 use Rattle.table_rule.proofs.ListLemmas.Last.{took_put, among_put, record_last, workers_last}
 use Rattle.table_rule.proofs.StepLemmas.TakeOk.{pending_is_new, taken_is_new}
-use Rattle.table_rule.proofs.StepLemmas.ToldOps.{told_place, told_op}
+use Rattle.table_rule.proofs.StepLemmas.ToldOps.{told_value, told_op}
 use Rattle.table_rule.proofs.TableLemmas.Through.{SameTold, told_again, told_kept, reseen, through, hold_others, hold_won, hold_gone, hold_same, slots_record}
 use Rattle.core_model.proofs.BookLemmas.Operations.{is_call}
 use Rattle.core_model.proofs.InvariantLemmas.Puts.{put_at, put_other}
@@ -214,8 +214,8 @@ module _ (job : CoreJob) (room : ℕ) (laws : Laws job) (slots id : ℕ) (v : Vi
       let not_called : s.call k ≡ NotCalled = m.1.call ∙ called in
       let free = is_free job s k o.parts (rw not_called (λ e. cc)) in
       let task : s.task k ≡ Started is.0 is.1 = m.1.task ∙ is.2 in
-      let op = told_op job s.book v.own.told (job.source call.leaf) is.4.0 call.op is.4.2 (told_place job s v.own.told v.own.task is.0 is.1 call.leaf is.2 is.3 m.1.told) in
-      let op_is : op_of job s.book call.leaf ≡ Some call.op = ap (λ (x : Maybe Op). op_from s.book x (job.source call.leaf)) is.4.1 ∙ op in
+      let op = told_op (value_under job s.book) v.own.told (job.source call.leaf) is.4.0 call.op is.4.2 (told_value job s v.own.told v.own.task is.0 is.1 call.leaf is.2 is.3 m.1.told) in
+      let op_is : op_of job s.book call.leaf ≡ Some call.op = ap (λ (x : Maybe Op). op_from (value_under job s.book) x (job.source call.leaf)) is.4.1 ∙ op in
       let calls = is_call job s.book call.leaf call.op op_is in
       let record_is : IsRecordOf job s.book (s.task k) call = (is.0, is.1, task, is.3, op_is) in
       let nowhere : task_place job s.book (s.task k) ≡ None = started_place job s.book (s.task k) is.0 is.1 call.leaf task is.3 ∙ unbooked job s k is.0 is.1 call.leaf o.parts task is.3 calls free not_called in

@@ -140,10 +140,10 @@ module _ (job : CoreJob) (room : ℕ) (laws : Laws job) (slots id : ℕ) (v : Vi
       let s = o.state in
       let word = get_or t.words i 0 in
       let m = mine_of job room t o id k v me from to in
-      let replied = laws.source s k n leaf source o.parts (kind, start, m.1.task ∙ task) has in
-      let below = ran_below job laws s (job.plan.node_of source) replied.worker replied.start replied.end o.parts replied.ran in
+      let valued = laws.source s k n leaf source o.parts (kind, start, m.1.task ∙ task) has in
+      let below = ran_below job laws s (job.plan.node_of source) valued.worker valued.start valued.end o.parts valued.ran in
       let shown : HasValue (s.value (job.plan.node_of source)) (get_or t.words (value_at P job.plan.count (job.plan.node_of source)) 0) = o.words.values (job.plan.node_of source) below in
-      let value : word ≡ value_of replied.place.entry.reply = ap (λ (j : ℕ). get_or t.words j 0) is ∙ rw replied.value at shown in (
+      let value : word ≡ valued.value = ap (λ (j : ℕ). get_or t.words j 0) is ∙ rw valued.kept at shown in (
         with_step (telling word) v,
         keeps,
         tt,
@@ -153,7 +153,7 @@ module _ (job : CoreJob) (room : ℕ) (laws : Laws job) (slots id : ℕ) (v : Vi
               task = own.task;
               call = own.call;
               posted = own.posted;
-              told = λ x told. let x_is : word ≡ x = cc in (n, start, leaf, source, task, kind, has, replied, sym x_is ∙ value);
+              told = λ x told. let x_is : word ≡ x = cc in (n, start, leaf, source, task, kind, has, valued, sym x_is ∙ value);
               entries = own.entries;
               hold = own.hold;
               new = own.new;

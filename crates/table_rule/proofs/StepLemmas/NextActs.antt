@@ -21,7 +21,7 @@ use Rattle.table_rule.specs.CoreWords.{Task, Idle, Run, Half, Started, Kept, End
 use Rattle.table_rule.specs.declared.slot.OpRecord.{OpRecord}
 use Rattle.table_rule.specs.declared.view.View.{View}
 use Rattle.table_rule.specs.Laws.{Laws}
-use Rattle.table_rule.specs.DueActs.{op_told, IsPostDue, IsKeepDueWith}
+use Rattle.table_rule.specs.DueActs.{number_told, op_told, IsPostDue, IsKeepDueWith}
 use Rattle.table_rule.specs.Tasks.{IsPar, TaskHere, progress_after, job_seen_with, IsNext}
 use Rattle.table_rule.proofs.StepLemmas.Sides.{block_in, side_below}
 use Rattle.core_model.proofs.InvariantLemmas.Finish.{idle_after, whole_after}
@@ -50,9 +50,9 @@ module _ (job : CoreJob) (task : Task) (call : CallState) where
   ActStands None = Unit {0}
   ActStands (Some (acts.Start n leaf)) = (task ≡ Run n) × IsLeaf (job.plan.kind n)
   ActStands (Some (acts.Open n y event)) = Opens job task n y event
-  ActStands (Some (acts.Spin n start steps)) = (task ≡ Started n start) × (value_in job.work (job.act (leaf_of (job.plan.kind n))) call ≡ Some (job.work steps))
+  ActStands (Some (acts.Spin n start leaf steps)) = (task ≡ Started n start) × (job.plan.kind n ≡ Some (LeafNode leaf)) × (job.act leaf ≡ kinds.Work steps)
   ActStands (Some (acts.Call n start leaf op)) = (task ≡ Started n start) × (call ≡ NotCalled) × (job.plan.kind n ≡ Some (LeafNode leaf)) × (op_in (job.act leaf) ≡ Some op)
-  ActStands (Some (acts.Got n start reply)) = (task ≡ Started n start) × (value_in job.work (job.act (leaf_of (job.plan.kind n))) call ≡ Some (value_of reply))
+  ActStands (Some (acts.Got n start reply)) = (task ≡ Started n start) × ((worked : Maybe ℕ) → value_in (job.act (leaf_of (job.plan.kind n))) worked call ≡ Some (value_of reply))
   ActStands (Some (acts.End n start)) = task ≡ Kept n start
   ActStands (Some (acts.Finish n event)) = Finishes job task n event
   ActStands (Some (acts.Arrive p l r n)) = (task ≡ Whole n) × (job.plan.kind p ≡ Some (ParNode l r)) × IsSide job.plan p n
@@ -64,9 +64,21 @@ MayPost job told task call =
     (n : ℕ) × (start : ℕ) × (task ≡ Started n start) × (job.plan.kind n ≡ Some (LeafNode call.leaf))
     × ((op : Op) × (op_in (job.act call.leaf) ≡ Some op) × (op_told op (job.source call.leaf) told ≡ Some call.op))
 
--- the leaf has started, and its value is this
-abbrev pub HasValue : CoreJob → Task → CallState → ℕ → Type 0
-HasValue job task call value = (n : ℕ) × (start : ℕ) × (task ≡ Started n start) × (value_in job.work (job.act (leaf_of (job.plan.kind n))) call ≡ Some value)
+-- the leaf at node `n` works, on a number that is by what was told of its source, and this is what it computes
+pub record WorksOn (job : CoreJob) (told : Maybe ℕ) (n value : ℕ) : Type 0 where
+  pub leaf : ℕ
+  pub steps : ℕ
+  pub number : ℕ
+  pub kind : job.plan.kind n ≡ Some (LeafNode leaf)
+  pub act : job.act leaf ≡ kinds.Work steps
+  pub told : number_told steps (job.source leaf) told ≡ Some number
+  pub is : value ≡ job.work number
+
+-- the leaf has started, and its value is this: that of its reply, or of its work
+abbrev pub MayKeep : CoreJob → Maybe ℕ → Task → CallState → ℕ → Type 0
+MayKeep job told task call value =
+    (n : ℕ) × (start : ℕ) × (task ≡ Started n start)
+    × (((worked : Maybe ℕ) → value_in (job.act (leaf_of (job.plan.kind n))) worked call ≡ Some value) ⊎ WorksOn job told n value)
 
 module _ (job : CoreJob) (task : Task) (call : CallState) where
   -- what a post or a keep that is due says of the task
@@ -78,10 +90,11 @@ module _ (job : CoreJob) (task : Task) (call : CallState) where
   post_by told None posted is stands = absurd is
   post_by told _ posted is stands = absurd is
 
-  keep_by : (o : Maybe Next) (value : ℕ) → IsKeepDueWith job.work o value → ActStands job task call o → HasValue job task call value
-  keep_by (Some (acts.Spin n start steps)) value is stands = (n, start, stands.0, stands.1 ∙ ap Some (sym is))
-  keep_by (Some (acts.Got n start reply)) value is stands = (n, start, stands.0, stands.1 ∙ ap Some (sym is))
-  keep_by _ value is stands = absurd is
+  keep_by : (told : Maybe ℕ) (o : Maybe Next) (value : ℕ) → IsKeepDueWith job.work job.source told o value → ActStands job task call o → MayKeep job told task call value
+  keep_by told (Some (acts.Spin n start leaf steps)) value is stands =
+      (n, start, stands.0, inr (record { leaf = leaf; steps = steps; number = is.0; kind = stands.1; act = stands.2; told = is.1; is = is.2 }))
+  keep_by told (Some (acts.Got n start reply)) value is stands = (n, start, stands.0, inl (λ worked. stands.1 worked ∙ ap Some (sym is)))
+  keep_by told _ value is stands = absurd is
 
 module _ (job : CoreJob) (laws : Laws job) (call : CallState) where
   run_stands : (n : ℕ) (kind : Maybe Kind) → job.plan.kind n ≡ kind → ActStands job (Run n) call (act_of_run kind n)
@@ -114,11 +127,11 @@ module _ (job : CoreJob) (laws : Laws job) (call : CallState) where
 
   started_stands : (n start leaf : ℕ) (act : Act) → job.plan.kind n ≡ Some (LeafNode leaf) → job.act leaf ≡ act
       → ActStands job (Started n start) call (act_of_started act call n start leaf)
-  started_stands n start leaf (kinds.Work steps) kind is = (refl, ap (λ u. value_in job.work (job.act (leaf_of u)) call) kind ∙ ap (λ a. value_in job.work a call) is)
+  started_stands n start leaf (kinds.Work steps) kind is = (refl, kind, is)
   started_stands n start leaf (kinds.Call op) kind is = elim call as (λ (c : CallState). ActStands job (Started n start) c (act_of_started (kinds.Call op) c n start leaf)) [
     | NotCalled ↦ (refl, refl, kind, ap op_in is)
     | Out ↦ tt
-    | Got receipt ↦ (refl, ap (λ u. value_in job.work (job.act (leaf_of u)) (Got receipt)) kind ∙ ap (λ a. value_in job.work a (Got receipt)) is)
+    | Got receipt ↦ (refl, λ worked. ap (λ u. value_in (job.act (leaf_of u)) worked (Got receipt)) kind ∙ ap (λ a. value_in a worked (Got receipt)) is)
   ]
 
   second_stands : (n p r : ℕ) → job.plan.kind p ≡ Some (SeqNode n r) → ActStands job (Whole n) call (act_of_second (job.plan.kind p) p)
@@ -177,8 +190,8 @@ module _ (job : CoreJob) (laws : Laws job) (call : CallState) where
   pub may_post : (told : Maybe ℕ) (task : Task) (posted : OpRecord) → TaskHere job.plan task → IsPostDue job.source told (next_act job task call) posted → (call ≡ NotCalled) × MayPost job told task posted
   may_post told task posted here due = post_by job task call told (next_act job task call) posted due (act_stands task here)
 
-  pub has_value : (task : Task) (value : ℕ) → TaskHere job.plan task → IsKeepDueWith job.work (next_act job task call) value → HasValue job task call value
-  has_value task value here due = keep_by job task call (next_act job task call) value due (act_stands task here)
+  pub may_keep : (told : Maybe ℕ) (task : Task) (value : ℕ) → TaskHere job.plan task → IsKeepDueWith job.work job.source told (next_act job task call) value → MayKeep job told task call value
+  may_keep told task value here due = keep_by job task call told (next_act job task call) value due (act_stands task here)
 
 -- the next act by the view is the job's, and the other way round
 pub act_is : (job : CoreJob) (v : View) (one two : Next) → job_seen_with job.work v ≡ job → next_act job v.own.task v.own.call ≡ Some two → IsNext v one → one ≡ two

@@ -22,13 +22,14 @@ use Rattle.sp_order.specs.Plans.{IsSide}
 use Rattle.core_model.specs.Events.{Happens, task_after, value_in}
 use Rattle.core_model.specs.State.{put, CoreJob}
 use Rattle.core_model.specs.Tasks.{is_done}
-use Rattle.core_model.specs.Operations.{leaf_of}
+use Rattle.core_model.specs.Operations.{leaf_of, value_under}
 use Rattle.table_rule.specs.declared.view.Miss.{Miss}
 use Rattle.table_rule.specs.declared.view.View.{View}
 use Rattle.table_rule.specs.declared.slot.Slot.{Slot}
 use Rattle.table_rule.specs.Tasks.{TaskHere, most_ticks, progress_after, job_seen_with, IsNext}
 use Rattle.table_rule.specs.DueActs.{IsTickDue}
-use Rattle.table_rule.proofs.StepLemmas.NextActs.{act_is, next_stands}
+use Rattle.table_rule.proofs.StepLemmas.NextActs.{act_is, next_stands, MayKeep}
+use Rattle.table_rule.proofs.StepLemmas.ToldOps.{told_keep}
 use Rattle.table_rule.proofs.StepLemmas.Sides.{block_in}
 use Rattle.table_rule.proofs.TableLemmas.Traces.{AddsEvent}
 use Rattle.table_rule.specs.Words.{stop_at, node_at, mark_at, value_at, tick_at, progress_code, WordsShow}
@@ -208,9 +209,12 @@ module _ (job : CoreJob) (room : ℕ) (laws : Laws job) (slots id : ℕ) (v : Vi
       )
 
   -- a value is kept
-  pub keeps_value : (i n start x : ℕ) → i ≡ value_at P N n → v.own.task ≡ Started n start → n < N → value_in job.work (job.act (leaf_of (job.plan.kind n))) v.own.call ≡ Some x → v.own.call ≢ Out
-      → StepRefines job room slots id (v, xs) i (λ y. x) (λ y. kept (step slots i x 0 none) (v, xs) x) (MakesEvent job k (Keep n start x))
-  keeps_value i n start x at task below is inside t o wide me fits =
+  pub keeps_value : (i x : ℕ) (may : MayKeep job v.own.told v.own.task v.own.call x) → i ≡ value_at P N may.0 → may.0 < N → v.own.call ≢ Out
+      → StepRefines job room slots id (v, xs) i (λ y. x) (λ y. kept (step slots i x 0 none) (v, xs) x) (MakesEvent job k (Keep may.0 may.1 x))
+  keeps_value i x may at below inside t o wide me fits =
+      let n = may.0 in
+      let start = may.1 in
+      let task = may.2 in
       let s = o.state in
       let m = mine_of job room t o id k v me from to in
       let w : View = with_step (keeping n start x) v in
@@ -219,7 +223,7 @@ module _ (job : CoreJob) (room : ℕ) (laws : Laws job) (slots id : ℕ) (v : Vi
         keeps,
         tt,
         job_step job room laws t o id k v w (set t.words i x) (Keep n start x) s.node s.mark (put s.value n (Some x)) s.tick (put s.call k NotCalled) (Kept n start)
-            record { worker_in = m.0; needs = (is_free job s k o.parts (outside t o me inside), m.1.task ∙ task, ap (value_in job.work (job.act (leaf_of (job.plan.kind n)))) m.1.call ∙ is); does = refl }
+            record { worker_in = m.0; needs = (is_free job s k o.parts (outside t o me inside), m.1.task ∙ task, ap (value_in (job.act (leaf_of (job.plan.kind n))) (value_under job s.book (leaf_of (job.plan.kind n)))) m.1.call ∙ told_keep job s v.own.told v.own.task v.own.call x laws.sources m.1.told may); does = refl }
             me from to enrolled (outside t o me inside) inside' (same w refl refl refl refl refl refl refl refl refl refl refl) record { events = refl; stops = refl; found = refl; misses = refl; stopped = refl }
             (get_or-set_other t.words i (stop_at P) x 0 (λ e. omega arith)) refl (put_at s.call k k NotCalled refl) (λ z ne. put_other s.call k z NotCalled ne) (λ done. done)
             (subst (λ (j : ℕ). WordsShow P N (set t.words j x) s.node s.mark (put s.value n (Some x)) s.status s.hold s.tick (length s.book)) (sym at)

@@ -105,7 +105,7 @@ module _ (job : CoreJob) (laws : Laws job) (s : State) (k : ℕ) (batch : List E
     task = m.task ∙ sym told.task;
     call = m.call ∙ sym told.call;
     posted = λ out. let was = m.posted out in (was.0, told.posted ∙ was.1, record_kept job laws s.book batch (s.task x) was.0 was.2);
-    told = λ value is. told_kept job laws s later x v.own.task w.own.task value kept_later m.task (sym told.task) (λ leaf place at. laws.places s.book batch leaf place at) (m.told value (sym told.told ∙ is));
+    told = λ value is. told_kept job laws s later x v.own.task w.own.task value kept_later m.task (sym told.task) (λ leaf v at. laws.values s.book batch leaf v at) (m.told value (sym told.told ∙ is));
     hold = hold;
     entries = rw told.left (entries_after x v happens m.entries);
     new = λ e. let t = m.new (sym told.enrolled ∙ e) in (same ∙ t.0, told.task ∙ t.1, told.call ∙ t.2, told.left ∙ t.3);

@@ -5,14 +5,13 @@ use mathlib.Core.Option.{Option, some}
 use lib.ListN.{get_elem?}
 use Rattle.atomic_table.proofs.Lists.{set_here, set_else}
 use Rattle.batch_history.specs.declared.batch.Entry.{Entry}
-use Rattle.seq_objects.specs.Objects.{value_of}
 use Rattle.core_model.specs.declared.task.Task.{Task}
 use Rattle.core_model.specs.declared.status.Status.{Status}
 use Rattle.core_model.specs.declared.status.CallState.TheVariants.{NotCalled}
 use Rattle.core_model.specs.declared.event.Event.{Event}
 use Rattle.core_model.specs.State.{put, CoreJob, Hold, State}
 use Rattle.core_model.specs.Events.{Happens}
-use Rattle.core_model.specs.Operations.{Place, place_of}
+use Rattle.core_model.specs.Operations.{value_under}
 use Rattle.core_model.specs.Tasks.{is_done}
 use Rattle.core_model.specs.Invariant.{Parts}
 use Rattle.table_rule.specs.declared.view.HoldView.{HoldView}
@@ -84,14 +83,14 @@ pub again : (job : CoreJob) (s : State) (home : SlotHome) (seat id : ℕ) (v w :
 again job s home seat id v w x told hold m = reseat job s home seat seat id id v w x m.sits told hold m
 
 -- what was told for a task is the source's value in the next state too, where the task is the worker's
-pub told_kept : (job : CoreJob) (laws : Laws job) (s new : State) (x : ℕ) (task task' : Task) (value : ℕ) → Parts job new → new.task x ≡ task → task ≡ task' → ((leaf : ℕ) (place : Place) → place_of s.book leaf ≡ Some place → place_of new.book leaf ≡ Some place)
+pub told_kept : (job : CoreJob) (laws : Laws job) (s new : State) (x : ℕ) (task task' : Task) (value : ℕ) → Parts job new → new.task x ≡ task → task ≡ task' → ((leaf v : ℕ) → value_under job s.book leaf ≡ Some v → value_under job new.book leaf ≡ Some v)
     → IsTold job s task value → IsTold job new task' value
 told_kept job laws s new x task task' value parts here same longer told =
-    let (node, start, leaf, source, started, kind, from, replied, is) = told in
+    let (node, start, leaf, source, started, kind, from, has, is) = told in
     let now = laws.source new x node leaf source parts (kind, start, here ∙ started) from in
-    let both : Some replied.place ≡ Some now.place = sym (longer source replied.place replied.stands) ∙ now.stands in
-    let at : replied.place ≡ now.place = cc in
-    (node, start, leaf, source, sym same ∙ started, kind, from, now, is ∙ ap (λ (p : Place). value_of p.entry.reply) at)
+    let both : Some has.value ≡ Some now.value = sym (longer source has.value has.under) ∙ now.under in
+    let at : has.value ≡ now.value = cc in
+    (node, start, leaf, source, sym same ∙ started, kind, from, now, is ∙ at)
 
 pub through : (job : CoreJob) (laws : Laws job) (s new : State) (k x : ℕ) (event : Event) (v w : View) (home home' : SlotHome) (seat id : ℕ) → Parts job s → Happens job s k event new
     → new.task x ≡ s.task x → new.call x ≡ s.call x → new.book ≡ s.book → (is_done (s.node 0) ≡ true → is_done (new.node 0) ≡ true)

@@ -27,6 +27,7 @@ returns c work key few leaves short sources =
       receipt = λ s worker node leaf op receipt parts served started is. c.receipt_is_of_the_own_entry.ensures job s worker node leaf op receipt parts (inl served) started is;
       sources = sources;
       source = λ s worker node leaf source parts started from. c.started_leaf_has_its_source.ensures job s worker node leaf source sources parts started from;
+      values = λ book batch leaf value is. c.operations_stay.ensures.values job book batch leaf value is;
       operations = λ book batch leaf op is. c.operations_stay.ensures.longer job book batch leaf op is;
       places = λ book batch leaf place at. c.entries_are_found_at_their_places.ensures.longer book batch leaf ∙ ap (λ (o : Maybe Place). or_else o (place_in (length book) 0 batch leaf)) at;
       low = λ leaf call. let within = call_within key.job.acts leaf call in omega (arith, within, short);

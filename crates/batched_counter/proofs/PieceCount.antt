@@ -5,7 +5,7 @@ use Rattle.std.proofs.Math.Nat.{mul-le-mul_left}
 use Rattle.std.proofs.lemmas.Bool.{cases_order}
 use Rattle.std.proofs.lemmas.Grind.{common_steps, div_ceil_times}
 use Rattle.seq_objects.specs.declared.call.Call.{Call}
-use Rattle.seq_objects.specs.Objects.{Objects}
+use Rattle.seq_objects.specs.Serial.{of_counter}
 use Rattle.batched_counter.specs.declared.piece.Piece.{Piece}
 use Rattle.batched_counter.specs.Calls.{addends}
 use Rattle.batched_counter.specs.Pieces.{Cut, IsCutInto, addends_in, piece_count}
@@ -53,10 +53,10 @@ none_counted : (size : ℕ) (xs : List ℕ) (pieces : List (List ℕ)) → lengt
 none_counted size xs [] none cut = refl
 none_counted size xs (piece ∷ pieces) none cut = absurd (omega (arith, none, cut.0))
 
-pub pieces_counted : (objects : Objects) (calls : List Call) (pieces : List Piece)
-    → Cut objects calls pieces → length pieces ≡ piece_count objects calls
-pieces_counted objects [] pieces cut = omega (arith, length_addends_in pieces, none_counted 0 [] (addends_in pieces) refl cut)
-pieces_counted objects (call ∷ calls) pieces cut =
+pub pieces_counted : (number : ℕ) (calls : List Call) (pieces : List Piece)
+    → Cut number calls pieces → length pieces ≡ piece_count (of_counter number) calls
+pieces_counted number [] pieces cut = omega (arith, length_addends_in pieces, none_counted 0 [] (addends_in pieces) refl cut)
+pieces_counted number (call ∷ calls) pieces cut =
     let size = (length (call ∷ calls) + 15) / 16 in
     sym (length_addends_in pieces) ∙ counted size (addends (call ∷ calls)) (addends_in pieces) (omega arith) cut
     ∙ ap (λ n. div_ceil n size) (length_addends (call ∷ calls))

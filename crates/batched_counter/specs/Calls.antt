@@ -3,7 +3,6 @@ use Rattle.std.specs.Prelude.{ℕ, ◌+◌, ◌<◌, ◌^◌, List, map}
 use Rattle.seq_objects.specs.declared.op.Op.{Op}
 use Rattle.seq_objects.specs.declared.op.Op.TheVariants.{CounterAdd}
 use Rattle.seq_objects.specs.declared.call.Call.{Call}
-use Rattle.seq_objects.specs.Objects.{Objects}
 use Rattle.seq_objects.specs.declared.kind.Kind.TheVariants.{Counter}
 use Rattle.seq_objects.specs.Batches.{AreOf}
 use Rattle.batched_counter.specs.Sums.{total}
@@ -17,7 +16,7 @@ addend_of _ = 0
 abbrev pub addends : List Call → List ℕ
 addends calls = map (λ call. addend_of call.op) calls
 
--- all calls are additions, and the counter stays below 2^64
-pub record MayServe (objects : Objects) (calls : List Call) : Type 0 where
+-- all calls are additions, and the number of the counter stays below 2^64
+pub record MayServe (number : ℕ) (calls : List Call) : Type 0 where
   pub adds : AreOf Counter calls
-  pub fits : objects.counter + total (addends calls) < 2 ^ 64
+  pub fits : number + total (addends calls) < 2 ^ 64

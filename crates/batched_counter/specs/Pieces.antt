@@ -3,7 +3,6 @@ use Rattle.std.specs.Prelude.{◌≡◌, ℕ, ◌+◌, ◌<◌, ◌/◌, List, [
 use Rattle.std.specs.Int.{div_ceil}
 use Rattle.seq_objects.specs.declared.call.Call.{Call}
 use Rattle.seq_objects.specs.Objects.{Objects}
-use Rattle.seq_objects.specs.Serial.{of_counter}
 use Rattle.seq_objects.specs.Pieces.{BatchContext}
 use Rattle.batched_counter.specs.declared.piece.Piece.{Piece}
 use Rattle.batched_counter.specs.declared.piece.Served.{Served}
@@ -23,8 +22,8 @@ IsCutInto size xs (piece ∷ pieces) =
     (0 < length xs) × (piece ≡ take size xs) × IsCutInto size (drop size xs) pieces
 
 -- each piece but the last has a sixteenth of the calls, rounded up; the last may have fewer
-abbrev pub Cut : Objects → List Call → List Piece → Type 0
-Cut objects calls ins = IsCutInto ((length calls + 15) / 16) (addends calls) (addends_in ins)
+abbrev pub Cut : ℕ → List Call → List Piece → Type 0
+Cut number calls ins = IsCutInto ((length calls + 15) / 16) (addends calls) (addends_in ins)
 
 -- the number of calls divided by the size of a piece, rounded up; the law `cut_fixes_the_number_of_pieces` equates it
 -- with the length of each `Cut`
@@ -39,5 +38,5 @@ pub record Meets (piece : Piece) (out : Served) : Type 0 where
 -- the rest keeps the number before the batch; that batch can be served, and its pieces are a `Cut` of it
 pub record IsContextOf (rest : Rest) (o : BatchContext ℕ Piece) : Type 0 where
   pub number : o.before ≡ rest.number
-  pub may : MayServe (of_counter o.before) o.calls
-  pub cut : Cut (of_counter o.before) o.calls o.ins
+  pub may : MayServe o.before o.calls
+  pub cut : Cut o.before o.calls o.ins

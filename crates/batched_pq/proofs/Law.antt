@@ -54,8 +54,8 @@ pub whole : (rest : Rest) (o : BatchContext (List ℕ) Piece) (outs : List Shard
     → bag_of outs ≡ with_items (inserts_of o.calls) o.before
 whole rest o outs kept met =
     same_bag (bag_of outs) (with_items (inserts_of o.calls) o.before) (ascends_in_order (items_of outs))
-    (ascends_with_items (inserts_of o.calls) o.before (subst (λ (bag : List ℕ). Ascends bag) kept.cut.bag (ascends_in_order (items_of (shards_in o.ins)))))
-    (λ n. omega (arith, copies_in_order n (items_of outs), copies_met n o.ins outs met, copies_dealt n (inserts_of o.calls) (takes_of o.calls) o.ins kept.cut.pieces, copies_with_items n (inserts_of o.calls) o.before, copies_in_order n (items_of (shards_in o.ins)), ap (λ (bag : List ℕ). copies n bag) kept.cut.bag))
+    (ascends_with_items (inserts_of o.calls) o.before (subst (λ (bag : List ℕ). Ascends bag) kept.cut.holds (ascends_in_order (items_of (shards_in o.ins)))))
+    (λ n. omega (arith, copies_in_order n (items_of outs), copies_met n o.ins outs met, copies_dealt n (inserts_of o.calls) (takes_of o.calls) o.ins kept.cut.pieces, copies_with_items n (inserts_of o.calls) o.before, copies_in_order n (items_of (shards_in o.ins)), ap (λ (bag : List ℕ). copies n bag) kept.cut.holds))
 
 pub law_replies : (rest : Rest) (o : BatchContext (List ℕ) Piece) (outs : List ShardView)
     → IsContextOf rest o → AllMeet Meets o.ins outs

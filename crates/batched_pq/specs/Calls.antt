@@ -4,7 +4,6 @@ use Rattle.std.specs.declared.option.Option.{Option}
 use Rattle.seq_objects.specs.declared.op.Op.{Op}
 use Rattle.seq_objects.specs.declared.op.Op.TheVariants.{PqInsert, PqTake}
 use Rattle.seq_objects.specs.declared.call.Call.{Call}
-use Rattle.seq_objects.specs.Objects.{Objects}
 use Rattle.seq_objects.specs.declared.kind.Kind.TheVariants.{Queue}
 use Rattle.seq_objects.specs.Batches.{AreOf}
 
@@ -41,5 +40,5 @@ inserts_for shard i (item ∷ items) =
     else inserts_for shard (i + 1) items
 
 -- any batch of calls of the queue can be served
-abbrev pub MayServe : Objects → List Call → Type 0
-MayServe objects calls = AreOf Queue calls
+abbrev pub MayServe : List ℕ → List Call → Type 0
+MayServe bag calls = AreOf Queue calls

@@ -3,7 +3,6 @@ use Rattle.std.specs.Prelude.{◌≡◌, ℕ, ◌+◌, ◌≤◌, ◌⊎◌, Lis
 use Rattle.seq_objects.specs.declared.call.Call.{Call}
 use Rattle.seq_objects.specs.Objects.{Objects}
 use Rattle.seq_objects.specs.Orders.{Ascends, copies}
-use Rattle.seq_objects.specs.Serial.{of_bag}
 use Rattle.seq_objects.specs.Batches.{AreOneBatch}
 use Rattle.seq_objects.specs.Pieces.{BatchContext}
 use Rattle.batched_pq.specs.declared.piece.Piece.{Piece}
@@ -24,9 +23,9 @@ ArePieces shard inserts takes (piece ∷ pieces) =
     × ArePieces (shard + 1) inserts takes pieces
 
 -- there is a piece for each of the eight shards, and the shards together hold the items of the bag
-pub record Cut (objects : Objects) (calls : List Call) (ins : List Piece) : Type 0 where
+pub record Cut (bag : List ℕ) (calls : List Call) (ins : List Piece) : Type 0 where
   pub pieces : ArePieces 0 (inserts_of calls) (takes_of calls) ins
-  pub bag : bag_of (shards_in ins) ≡ objects.bag
+  pub holds : bag_of (shards_in ins) ≡ bag
 
 -- the number of shards, whatever the calls
 abbrev pub piece_count : Objects → List Call → ℕ
@@ -43,7 +42,7 @@ pub record Meets (piece : Piece) (out : ShardView) : Type 0 where
 -- the rest keeps the numbers of inserts and takes of one batch, whose pieces are a `Cut` of it
 pub record IsContextOf (rest : Rest) (o : BatchContext (List ℕ) Piece) : Type 0 where
   pub batch : AreOneBatch o.calls
-  pub may : MayServe (of_bag o.before) o.calls
+  pub may : MayServe o.before o.calls
   pub inserts : rest.inserts ≡ length (inserts_of o.calls)
   pub takes : rest.takes ≡ takes_of o.calls
-  pub cut : Cut (of_bag o.before) o.calls o.ins
+  pub cut : Cut o.before o.calls o.ins

@@ -44,7 +44,7 @@ each_room o (out ∷ outs) j all = (λ is. subst (λ (k : ℕ). HasRoom o k out.
 
 module _ (rest : Rest) (o : BatchContext StackView Piece) (outs : List Served) (r : IsContextOf rest o) (m : AllMeet Meets o.ins outs) where
   all_outcomes : AllByRecursion (IsOutcome o) outs × (map (λ out. out.number) outs ≡ numbers_in o.ins)
-  all_outcomes = outcomes o o.ins outs r.each r.rooms m
+  all_outcomes = outcomes o o.ins outs r.cut.each m
 
   no_piece : (j : ℕ) → has j (map (λ (out : Served). out.number) outs) ≡ false
       → has j (numbers_in o.ins) ≡ false
@@ -103,7 +103,7 @@ module _ (rest : Rest) (o : BatchContext StackView Piece) (outs : List Served) (
   pub content_is : (stripes : List (List ℕ))
       → stripes ≡ with_outs (λ (out : Served). out.stripe.items.items) (lists rest.stripes.items) outs
       → of_stack (items_of stripes (rest.count + rest.pushes - rest.pops)) ≡ after_all (of_stack o.before.items) o.calls
-  content_is stripes is = ap of_stack (items_are stripes is) ∙ sym (serial_after o.before.items o.calls r.calls r.batch.order)
+  content_is stripes is = ap of_stack (items_are stripes is) ∙ sym (serial_after o.before.items o.calls r.may r.batch.order)
 
   pub rooms_are : (rooms : List ℕ)
       → rooms ≡ with_outs (λ (out : Served). out.stripe.room) (rooms_in rest.stripes.items) outs
@@ -139,4 +139,4 @@ module _ (rest : Rest) (o : BatchContext StackView Piece) (outs : List Served) (
       ∙ ap (λ n. stack_replies popped (length (all_items o)) (left_of o) (length (pushes_of o.calls)) n) r.pops
       ∙ ap (λ rs. replicate (length (pushes_of o.calls)) reply.Unit ++ (rs ++ replicate (pops_of o.calls - (length (all_items o) - left_of o)) reply.Empty)) (sym numbers)
       ∙ ap (λ rs. replicate (length (pushes_of o.calls)) reply.Unit ++ rs) (sym (pop_replies_are (all_items o) (pops_of o.calls)))
-      ∙ sym (serial_replies o.before.items o.calls r.calls r.batch.order)
+      ∙ sym (serial_replies o.before.items o.calls r.may r.batch.order)

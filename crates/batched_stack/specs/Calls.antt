@@ -3,9 +3,9 @@ use Rattle.std.specs.Prelude.{ℕ, ◌+◌, List, [], ◌∷◌, ◌++◌}
 use Rattle.seq_objects.specs.declared.op.Op.{Op}
 use Rattle.seq_objects.specs.declared.op.Op.TheVariants.{Push, Pop}
 use Rattle.seq_objects.specs.declared.call.Call.{Call}
-use Rattle.seq_objects.specs.Objects.{Objects}
 use Rattle.seq_objects.specs.declared.kind.Kind.TheVariants.{Stack}
 use Rattle.seq_objects.specs.Batches.{AreOf}
+use Rattle.batched_stack.specs.Stripes.{StackView}
 
 -- the item that an operation pushes, as a list; empty where it is no push
 abbrev pub pushes_in : Op → List ℕ
@@ -28,5 +28,5 @@ pops_of [] = 0
 pops_of (call ∷ calls) = pops_in call.op + pops_of calls
 
 -- any batch of calls of the stack can be served
-abbrev pub MayServe : Objects → List Call → Type 0
-MayServe objects calls = AreOf Stack calls
+abbrev pub MayServe : StackView → List Call → Type 0
+MayServe stack calls = AreOf Stack calls

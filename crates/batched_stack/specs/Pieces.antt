@@ -3,13 +3,12 @@ use Rattle.std.specs.Prelude.{◌≡◌, ℕ, zero, suc, ◌+◌, ◌-◌, ◌%�
 use Rattle.std.specs.List.{AllByRecursion, range_with_len}
 use Rattle.seq_objects.specs.declared.call.Call.{Call}
 use Rattle.seq_objects.specs.Objects.{Objects, has}
-use Rattle.seq_objects.specs.declared.kind.Kind.TheVariants.{Stack}
-use Rattle.seq_objects.specs.Batches.{AreOneBatch, AreOf}
+use Rattle.seq_objects.specs.Batches.{AreOneBatch}
 use Rattle.seq_objects.specs.Pieces.{BatchContext}
 use Rattle.batched_stack.specs.declared.piece.Piece.{Piece}
 use Rattle.batched_stack.specs.declared.piece.Served.{Served}
 use Rattle.batched_stack.specs.declared.piece.Rest.{Rest}
-use Rattle.batched_stack.specs.Calls.{pushes_of, pops_of}
+use Rattle.batched_stack.specs.Calls.{MayServe, pushes_of, pops_of}
 use Rattle.batched_stack.specs.Stripes.{StackView, stripe, stripe_length}
 use Rattle.batched_stack.specs.Lists.{lists, rooms_in}
 use Rattle.batched_stack.specs.Rooms.{NeedsRoom, IsNext}
@@ -44,17 +43,18 @@ piece_numbers n pushes pops = or_first (filter (is_called n pushes pops) (range_
 abbrev pub numbers_in : List Piece → List ℕ
 numbers_in pieces = map (λ piece. piece.number) pieces
 
--- the piece has its stripe's items of the stack, the pushes to it, and the number of pops that take an item of it
-pub record IsPieceOf (stack puts : List ℕ) (takes : ℕ) (piece : Piece) : Type 0 where
-  pub items : piece.stripe.items.items ≡ stripe piece.number stack
-  pub pushes : piece.pushes.items ≡ pushes_to piece.number (length stack) puts
-  pub pops : piece.pops ≡ pops_from piece.number (length stack + length puts) takes
+-- the piece has its stripe's items of the stack and its present room, the pushes to it, and the number of pops that
+-- take an item of it
+pub record IsPieceOf (stack : StackView) (puts : List ℕ) (takes : ℕ) (piece : Piece) : Type 0 where
+  pub items : piece.stripe.items.items ≡ stripe piece.number stack.items
+  pub room : piece.stripe.room ≡ slice_index stack.rooms piece.number
+  pub pushes : piece.pushes.items ≡ pushes_to piece.number (length stack.items) puts
+  pub pops : piece.pops ≡ pops_from piece.number (length stack.items + length puts) takes
 
--- The pieces of a batch, one for each stripe that gets one. Only `IsContextOf` says that each stripe has its present
--- room, since the items do not determine the room.
-pub record Cut (objects : Objects) (calls : List Call) (pieces : List Piece) : Type 0 where
-  pub numbers : numbers_in pieces ≡ piece_numbers (length objects.stack) (pushes_of calls) (pops_of calls)
-  pub each : AllByRecursion (IsPieceOf objects.stack (pushes_of calls) (pops_of calls)) pieces
+-- the pieces of a batch, one for each stripe that gets one
+pub record Cut (stack : StackView) (calls : List Call) (pieces : List Piece) : Type 0 where
+  pub numbers : numbers_in pieces ≡ piece_numbers (length stack.items) (pushes_of calls) (pops_of calls)
+  pub each : AllByRecursion (IsPieceOf stack (pushes_of calls) (pops_of calls)) pieces
 
 -- the number of stripes that get a piece
 abbrev pub piece_count : Objects → List Call → ℕ
@@ -74,15 +74,13 @@ pub record IsKept (before : StackView) (stripes : List (List ℕ)) (rooms : List
   pub items : slice_index_or stripes j [] ≡ stripe j before.items
   pub room : slice_index rooms j ≡ slice_index before.rooms j
 
--- The rest belongs to this batch: it has the numbers of items, pushes and pops, and the stripes that no piece has. The
--- pieces are a `Cut` of the batch, and each stripe has its present room. No stripe needed another room before the
--- batch, and the items with the pushes are fewer than 2^63.
+-- The rest belongs to this batch, which can be served: it has the numbers of items, pushes and pops, and the stripes
+-- that no piece has. The pieces are a `Cut` of the batch. No stripe needed another room before the batch, and the items
+-- with the pushes are fewer than 2^63.
 pub record IsContextOf (rest : Rest) (o : BatchContext StackView Piece) : Type 0 where
   pub batch : AreOneBatch o.calls
-  pub calls : AreOf Stack o.calls
-  pub numbers : numbers_in o.ins ≡ piece_numbers (length o.before.items) (pushes_of o.calls) (pops_of o.calls)
-  pub each : AllByRecursion (IsPieceOf o.before.items (pushes_of o.calls) (pops_of o.calls)) o.ins
-  pub rooms : AllByRecursion (λ piece. piece.stripe.room ≡ slice_index o.before.rooms piece.number) o.ins
+  pub may : MayServe o.before o.calls
+  pub cut : Cut o.before o.calls o.ins
   pub count : rest.count ≡ length o.before.items
   pub pushes : rest.pushes ≡ length (pushes_of o.calls)
   pub pops : rest.pops ≡ pops_of o.calls

@@ -1,8 +1,9 @@
 //! Laws on the stack's rooms and on how many pieces a batch has.
 ghost use Rattle.std.specs.Prelude.{◌≡◌, ◌≤◌, ◌*◌, List, length};
 ghost use Rattle.seq_objects.specs.declared.call.Call.{Call};
-ghost use Rattle.seq_objects.specs.Objects.{Objects};
+ghost use Rattle.seq_objects.specs.Serial.{of_stack};
 ghost use Rattle.batched_stack.specs.declared.piece.Piece.{Piece};
+ghost use Rattle.batched_stack.specs.Stripes.{StackView};
 ghost use Rattle.batched_stack.specs.Copies.{BatchCounts, FollowRule, copied_items, call_count, first_rooms};
 ghost use Rattle.batched_stack.specs.Pieces.{Cut, piece_count};
 
@@ -15,6 +16,6 @@ pub fn changes_of_room_copy_little()
 
 /// The stack's items before a batch and the batch's calls determine how many pieces it is cut into.
 pub fn cut_fixes_the_number_of_pieces()
-    ensures { (objects : Objects) (calls : List Call) (pieces : List Piece) → Cut objects calls pieces
-        → length pieces ≡ piece_count objects calls }
+    ensures { (stack : StackView) (calls : List Call) (pieces : List Piece) → Cut stack calls pieces
+        → length pieces ≡ piece_count (of_stack stack.items) calls }
 {}

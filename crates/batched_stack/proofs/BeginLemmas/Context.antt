@@ -11,10 +11,10 @@ use Rattle.batched_stack.specs.declared.piece.Piece.{Piece}
 use Rattle.batched_stack.specs.declared.piece.Rest.{Rest}
 use Rattle.batched_stack.specs.Calls.{pushes_of, pops_of}
 use Rattle.batched_stack.specs.Stripes.{stripe_length, items_of}
-use Rattle.batched_stack.specs.Lists.{lists, rooms_in}
+use Rattle.batched_stack.specs.Lists.{lists}
 use Rattle.batched_stack.specs.Rooms.{NeedsRoom}
 use Rattle.batched_stack.specs.Pieces.{pushes_to, pops_from, is_called, or_first, piece_numbers, numbers_in, IsPieceOf, IsContextOf}
-use Rattle.batched_stack.specs.Code.Begin.{AreStripes, IsCutOf, IsSame}
+use Rattle.batched_stack.specs.Code.Begin.{IsCutOf, IsSame}
 use Rattle.batched_stack.specs.Code.Invariant.{StackInvariant}
 use Rattle.batched_stack.proofs.StripeLemmas.Whole.{length_items_of, stripe_of_items}
 
@@ -38,40 +38,36 @@ piece_count n puts takes pieces is =
     let both = or_first_count (filter (is_called n puts takes) (range_with_len 0 16)) (few_passed (is_called n puts takes) (range_with_len 0 16)) in
     (omega (arith, long, both.0), omega (arith, long, both.1))
 
-pub numbers_seen : (stripes : List (List ℕ)) (n : ℕ) (puts : List ℕ) (takes : ℕ) (pieces : List Piece)
+numbers_seen : (stripes : List (List ℕ)) (n : ℕ) (puts : List ℕ) (takes : ℕ) (pieces : List Piece)
     → numbers_in pieces ≡ piece_numbers n puts takes
     → numbers_in pieces ≡ piece_numbers (length (items_of stripes n)) puts takes
 numbers_seen stripes n puts takes pieces is = is ∙ ap (λ k. piece_numbers k puts takes) (sym (length_items_of stripes n))
 
-pub pieces_seen : (stripes : List Stripe) (n : ℕ) (puts : List ℕ) (takes : ℕ) (pieces : List Piece)
-    → AreStripes stripes n → AllByRecursion (IsCutOf stripes n puts takes) pieces
-    → AllByRecursion (IsPieceOf (items_of (lists stripes) n) puts takes) pieces
-pieces_seen stripes n puts takes [] are each = tt
-pieces_seen stripes n puts takes (piece ∷ pieces) are each =
+pieces_seen : (stripes : List Stripe) (rooms : List ℕ) (n : ℕ) (puts : List ℕ) (takes : ℕ) (pieces : List Piece)
+    → StackInvariant stripes rooms n → AllByRecursion (IsCutOf stripes n puts takes) pieces
+    → AllByRecursion (IsPieceOf (record { items = items_of (lists stripes) n; rooms = rooms }) puts takes) pieces
+pieces_seen stripes rooms n puts takes [] whole each = tt
+pieces_seen stripes rooms n puts takes (piece ∷ pieces) whole each =
     let long = sym (length_items_of (lists stripes) n) in (
       record {
-        items = each.0.items ∙ sym (stripe_of_items (lists stripes) n piece.number piece.low (are.lengths piece.number piece.low));
+        items = each.0.items ∙ sym (stripe_of_items (lists stripes) n piece.number piece.low (whole.stripes.lengths piece.number piece.low));
+        room = each.0.room ∙ ap (λ rs. get_or rs piece.number 0) (sym whole.rooms);
         pushes = each.0.pushes ∙ ap (λ k. pushes_to piece.number k puts) long;
         pops = each.0.pops ∙ ap (λ k. pops_from piece.number (k + length puts) takes) long;
       },
-      pieces_seen stripes n puts takes pieces are each.1,
+      pieces_seen stripes rooms n puts takes pieces whole each.1,
     )
 
-rooms_seen : (stripes : List Stripe) (rooms : List ℕ) (n : ℕ) (puts : List ℕ) (takes : ℕ) (pieces : List Piece)
-    → rooms ≡ rooms_in stripes → AllByRecursion (IsCutOf stripes n puts takes) pieces
-    → AllByRecursion (λ piece. piece.stripe.room ≡ get_or rooms piece.number 0) pieces
-rooms_seen stripes rooms n puts takes [] are each = tt
-rooms_seen stripes rooms n puts takes (piece ∷ pieces) are each = (each.0.room ∙ ap (λ rs. get_or rs piece.number 0) (sym are), rooms_seen stripes rooms n puts takes pieces are each.1)
-
 pub remembered : (stripes : List Stripe) (rooms : List ℕ) (rest : Rest) (calls : List Call) (pieces : List Piece) → StackInvariant stripes rooms rest.count → AreOneBatch calls → AreOf Stack calls → numbers_in pieces ≡ piece_numbers rest.count (pushes_of calls) (pops_of calls) → AllByRecursion (IsCutOf stripes rest.count (pushes_of calls) (pops_of calls)) pieces → rest.pushes ≡ length (pushes_of calls) → rest.pops ≡ pops_of calls → rest.count + rest.pushes < 2 ^ 63 → length rest.stripes.items ≡ 16 → ((j : ℕ) → j < 16 → has j (numbers_in pieces) ≡ false → IsSame stripes rest.stripes.items j) → IsContextOf rest (record { before = record { items = items_of (lists stripes) rest.count; rooms = rooms }; calls = calls; ins = pieces })
-remembered stripes rooms rest calls pieces whole batch of numbers each pushes pops fits sixteen kept =
+remembered stripes rooms rest calls pieces whole batch may numbers each pushes pops fits sixteen kept =
     let long = length_items_of (lists stripes) rest.count in
     record {
       batch = batch;
-      calls = of;
-      numbers = numbers_seen (lists stripes) rest.count (pushes_of calls) (pops_of calls) pieces numbers;
-      each = pieces_seen stripes rest.count (pushes_of calls) (pops_of calls) pieces whole.stripes each;
-      rooms = rooms_seen stripes rooms rest.count (pushes_of calls) (pops_of calls) pieces whole.rooms each;
+      may = may;
+      cut = record {
+        numbers = numbers_seen (lists stripes) rest.count (pushes_of calls) (pops_of calls) pieces numbers;
+        each = pieces_seen stripes rooms rest.count (pushes_of calls) (pops_of calls) pieces whole each;
+      };
       count = sym long;
       pushes = pushes;
       pops = pops;

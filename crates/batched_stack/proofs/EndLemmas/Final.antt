@@ -81,9 +81,8 @@ left_in o j low =
     rw (long, pops_from_is j (length o.before.items + length (pushes_of o.calls)) (pops_of o.calls) low, all) (fewer j (length o.before.items + length (pushes_of o.calls)) (pops_of o.calls))
 
 outcome : (o : BatchContext StackView Piece) (piece : Piece) (out : Served)
-    → IsPieceOf o.before.items (pushes_of o.calls) (pops_of o.calls) piece
-    → piece.stripe.room ≡ get_or o.before.rooms piece.number 0 → Meets piece out → IsOutcome o out
-outcome o piece out of room meets =
+    → IsPieceOf o.before (pushes_of o.calls) (pops_of o.calls) piece → Meets piece out → IsOutcome o out
+outcome o piece out of meets =
     let j = out.number in
     let low = out.low in
     let own : piece.stripe.items.items ++ piece.pushes.items ≡ stripe j (all_items o) = ap (λ xs. xs ++ piece.pushes.items) of.items ∙ ap (λ xs. stripe piece.number o.before.items ++ xs) of.pushes ∙ ap (λ k. stripe k o.before.items ++ pushes_to k (length o.before.items) (pushes_of o.calls)) (sym meets.number) ∙ sym (pushed_onto o j low) in
@@ -95,20 +94,18 @@ outcome o piece out of room meets =
     record {
       left = record { is = items };
       taken = meets.popped ∙ ap (λ k. reverse (drop k (piece.stripe.items.items ++ piece.pushes.items))) left ∙ ap (λ xs. reverse (drop (stripe_length j (left_of o)) xs)) own;
-      room = subst (λ (n : ℕ). IsNext (get_or o.before.rooms j 0) n out.stripe.room) long (subst (λ (r : ℕ). IsNext r (length out.stripe.items.items) out.stripe.room) (room ∙ ap (λ k. get_or o.before.rooms k 0) (sym meets.number)) meets.room);
+      room = subst (λ (n : ℕ). IsNext (get_or o.before.rooms j 0) n out.stripe.room) long (subst (λ (r : ℕ). IsNext r (length out.stripe.items.items) out.stripe.room) (of.room ∙ ap (λ k. get_or o.before.rooms k 0) (sym meets.number)) meets.room);
     }
 
 pub outcomes : (o : BatchContext StackView Piece) (ins : List Piece) (outs : List Served)
-    → AllByRecursion (IsPieceOf o.before.items (pushes_of o.calls) (pops_of o.calls)) ins
-    → AllByRecursion (λ piece. piece.stripe.room ≡ get_or o.before.rooms piece.number 0) ins
-    → AllMeet Meets ins outs
+    → AllByRecursion (IsPieceOf o.before (pushes_of o.calls) (pops_of o.calls)) ins → AllMeet Meets ins outs
     → AllByRecursion (IsOutcome o) outs × (map (λ out. out.number) outs ≡ numbers_in ins)
-outcomes o [] [] each rooms meet = (tt, refl)
-outcomes o [] (out ∷ outs) each rooms meet = absurd meet
-outcomes o (piece ∷ ins) [] each rooms meet = absurd meet
-outcomes o (piece ∷ ins) (out ∷ outs) each rooms meet =
-    let later = outcomes o ins outs each.1 rooms.1 meet.1 in
-    ((outcome o piece out each.0 rooms.0 meet.0, later.0), ap (λ k. k ∷ map (λ (x : Served). x.number) outs) meet.0.number ∙ ap (λ ks. piece.number ∷ ks) later.1)
+outcomes o [] [] each meet = (tt, refl)
+outcomes o [] (out ∷ outs) each meet = absurd meet
+outcomes o (piece ∷ ins) [] each meet = absurd meet
+outcomes o (piece ∷ ins) (out ∷ outs) each meet =
+    let later = outcomes o ins outs each.1 meet.1 in
+    ((outcome o piece out each.0 meet.0, later.0), ap (λ k. k ∷ map (λ (x : Served). x.number) outs) meet.0.number ∙ ap (λ ks. piece.number ∷ ks) later.1)
 
 no_first : (j : ℕ) (js : List ℕ) → has j (or_first js) ≡ false → has j js ≡ false
 no_first j [] none = refl
@@ -127,7 +124,7 @@ idle rest o r j low none =
     let n = length o.before.items in
     let puts = pushes_of o.calls in
     let called = filter (is_called n puts (pops_of o.calls)) (range_with_len 0 16) in
-    let none' : has j called ≡ false = no_first j called (ap (has j) (sym r.numbers) ∙ none) in
+    let none' : has j called ≡ false = no_first j called (ap (has j) (sym r.cut.numbers) ∙ none) in
     let quiet = not_passed (is_called n puts (pops_of o.calls)) j 0 16 none' (omega arith) (omega (arith, low)) in
     let nothing = nothing_in (pushes_to j n puts) (pops_from j (n + length puts) (pops_of o.calls)) quiet in
     let same : stripe j (all_items o) ≡ stripe j o.before.items = pushed_onto o j low ∙ ap (λ xs. stripe j o.before.items ++ xs) nothing.0 ∙ append-nil (stripe j o.before.items) in

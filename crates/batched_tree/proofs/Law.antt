@@ -217,7 +217,7 @@ length_outs (piece ∷ ins) (out ∷ outs) meet = omega (arith, length_outs ins 
 -- the facts that the end relies on
 pieces_of : (rest : Rest) (o : BatchContext (List ℕ) Piece) (r : IsContextOf rest o)
     → AreCutPieces o.before o.calls (starts_of r.cut.groups) o.ins
-pieces_of rest o r = cut_pieces (of_set o.before) o.calls o.ins (some_key o.calls r.batch.some) r.cut
+pieces_of rest o r = cut_pieces o.before o.calls o.ins (some_key o.calls r.batch.some) r.cut
 
 pub law_replies : (rest : Rest) (o : BatchContext (List ℕ) Piece) (outs : List Served)
     → IsContextOf rest o → AllMeet Meets o.ins outs

@@ -4,7 +4,7 @@ use Rattle.key_sets.specs.Groups.{distinct}
 use Rattle.seq_objects.specs.declared.op.Op.{Op}
 use Rattle.seq_objects.specs.declared.op.Op.TheVariants.{TreeInsert, TreeRemove, TreeFind, TreeNext}
 use Rattle.seq_objects.specs.declared.call.Call.{Call}
-use Rattle.seq_objects.specs.Objects.{Objects, argument_of}
+use Rattle.seq_objects.specs.Objects.{argument_of}
 use Rattle.seq_objects.specs.declared.kind.Kind.TheVariants.{Tree}
 use Rattle.seq_objects.specs.Batches.{AreOf}
 
@@ -29,5 +29,5 @@ abbrev pub distinct_keys : List Call → List ℕ
 distinct_keys calls = distinct (keys_of calls)
 
 -- any batch of calls of the tree can be served
-abbrev pub MayServe : Objects → List Call → Type 0
-MayServe objects calls = AreOf Tree calls
+abbrev pub MayServe : List ℕ → List Call → Type 0
+MayServe set calls = AreOf Tree calls

@@ -32,10 +32,10 @@ ArePieces set calls start (group ∷ groups) (piece ∷ pieces) =
     × ArePieces set calls (unwrap_or (least_of groups) 0) groups pieces
 
 -- each group but the last has a sixteenth of the calls' distinct keys, rounded up; the first range begins at 0
-pub record Cut (objects : Objects) (calls : List Call) (ins : List Piece) : Type 0 where
+pub record Cut (set : List ℕ) (calls : List Call) (ins : List Piece) : Type 0 where
   pub groups : List (List ℕ)
   pub groups_are : AreGroups (group_size (length (distinct_keys calls))) (distinct_keys calls) groups
-  pub pieces : ArePieces objects.set calls 0 groups ins
+  pub pieces : ArePieces set calls 0 groups ins
 
 -- the number of groups of the calls' distinct keys: their number divided by the size of a group, rounded up
 abbrev pub piece_count : Objects → List Call → ℕ
@@ -51,6 +51,6 @@ pub record Meets (piece : Piece) (served : Served) : Type 0 where
 pub record IsContextOf (rest : Rest) (o : BatchContext (List ℕ) Piece) : Type 0 where
   pub ascends : StrictlyAscends o.before
   pub batch : AreOneBatch o.calls
-  pub may : MayServe (of_set o.before) o.calls
-  pub cut : Cut (of_set o.before) o.calls o.ins
+  pub may : MayServe o.before o.calls
+  pub cut : Cut o.before o.calls o.ins
   pub groups : rest.groups.items ≡ map (λ call. group_of (key_of call) (starts_of cut.groups)) o.calls

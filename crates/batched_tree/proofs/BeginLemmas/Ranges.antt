@@ -17,13 +17,11 @@ use Rattle.key_sets.proofs.GroupLemmas.Distinct.{distinct_ascends}
 use Rattle.key_sets.proofs.GroupLemmas.Cutting.{all_get, absent_above, AreApart, apart, take_drop, all_take, get_drop, get_less, groups_by, groups_are, least_is, starts_up, next_start, starts_again, all_from_0}
 use Rattle.key_sets.proofs.GroupLemmas.Placing.{last_whole}
 use Rattle.seq_objects.specs.declared.call.Call.{Call}
-use Rattle.seq_objects.specs.Objects.{Objects}
 use Rattle.batched_tree.specs.declared.piece.Piece.{Piece}
 use Rattle.batched_tree.specs.Calls.{key_of, keys_of, distinct_keys}
 use Rattle.batched_tree.specs.Code.Sides.{calls_below, calls_from}
 use Rattle.seq_objects.specs.declared.kind.Kind.TheVariants.{Tree}
 use Rattle.seq_objects.specs.Batches.{AreOneBatch, AreOf}
-use Rattle.seq_objects.specs.Serial.{of_set}
 use Rattle.batched_tree.specs.declared.piece.Rest.{Rest}
 use Rattle.batched_tree.proofs.BeginLemmas.Cuts.{some_key}
 use Rattle.batched_tree.specs.Pieces.{IsPiece, ArePieces, Cut, IsContextOf}
@@ -228,28 +226,28 @@ calls_from_0 : (calls : List Call) → calls_from 0 calls ≡ calls
 calls_from_0 calls = filter_all (λ call. not (nat_lt (key_of call) 0)) (λ call. not_below_0 (key_of call)) calls
 
 -- cut pieces are the pieces of the groups, and conversely
-pub pieces_cut : (objects : Objects) (calls : List Call) (starts : List ℕ) (pieces : List Piece)
+pub pieces_cut : (set : List ℕ) (calls : List Call) (starts : List ℕ) (pieces : List Piece)
     → 0 < length (distinct_keys calls)
-    → AreStarts (group_size (length (distinct_keys calls))) (distinct_keys calls) starts → AreCutPieces objects.set calls starts pieces → (cut : Cut objects calls pieces) × (starts_of cut.groups ≡ starts)
-pieces_cut objects calls starts pieces some are are_pieces =
+    → AreStarts (group_size (length (distinct_keys calls))) (distinct_keys calls) starts → AreCutPieces set calls starts pieces → (cut : Cut set calls pieces) × (starts_of cut.groups ≡ starts)
+pieces_cut set calls starts pieces some are are_pieces =
     let keys = distinct_keys calls in
     let size = group_size (length keys) in
-    let are_pieces' : AreCutPieces (from 0 objects.set) (calls_from 0 calls) starts pieces = rw (from_0 objects.set, calls_from_0 calls) are_pieces in (
+    let are_pieces' : AreCutPieces (from 0 set) (calls_from 0 calls) starts pieces = rw (from_0 set, calls_from_0 calls) are_pieces in (
       record {
         groups = groups_by size keys starts;
         groups_are = groups_are size keys starts some are;
-        pieces = parts_are size starts keys 0 objects.set calls pieces (omega arith) are (at_all calls some) are_pieces';
+        pieces = parts_are size starts keys 0 set calls pieces (omega arith) are (at_all calls some) are_pieces';
       },
       starts_again size keys starts (omega arith) are,
     )
 
-pub cut_pieces : (objects : Objects) (calls : List Call) (pieces : List Piece)
-    → 0 < length (distinct_keys calls) → (cut : Cut objects calls pieces)
-    → AreCutPieces objects.set calls (starts_of cut.groups) pieces
-cut_pieces objects calls pieces some cut =
+pub cut_pieces : (set : List ℕ) (calls : List Call) (pieces : List Piece)
+    → 0 < length (distinct_keys calls) → (cut : Cut set calls pieces)
+    → AreCutPieces set calls (starts_of cut.groups) pieces
+cut_pieces set calls pieces some cut =
     let keys = distinct_keys calls in
-    let are_pieces = pieces_are (group_size (length keys)) cut.groups keys 0 objects.set calls pieces (omega arith) cut.groups_are (at_all calls some) cut.pieces in
-    rw (from_0 objects.set, calls_from_0 calls) at are_pieces
+    let are_pieces = pieces_are (group_size (length keys)) cut.groups keys 0 set calls pieces (omega arith) cut.groups_are (at_all calls some) cut.pieces in
+    rw (from_0 set, calls_from_0 calls) at are_pieces
 
 pub starts_ascend : (calls : List Call) (keys starts : List ℕ) → 0 < length calls
     → keys ≡ distinct_keys calls → AreStarts (group_size (length keys)) keys starts
@@ -266,7 +264,7 @@ pub remembered : (set : List ℕ) (calls : List Call) (keys starts : List ℕ) (
     → IsContextOf rest (record { before = set; calls = calls; ins = pieces })
 remembered set calls keys starts pieces rest up batch tree is are are_pieces groups =
     let are' = rw is at are in
-    let cut = pieces_cut (of_set set) calls starts pieces (some_key calls batch.some) are' are_pieces in
+    let cut = pieces_cut set calls starts pieces (some_key calls batch.some) are' are_pieces in
     record { ascends = up; batch = batch; may = tree; cut = cut.0; groups = rw cut.1 groups }
 
 -- each group has a piece

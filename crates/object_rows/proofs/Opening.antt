@@ -16,24 +16,24 @@ use Rattle.object_rows.specs.Numbers.{numbers_of}
 use Rattle.object_rows.specs.Rows.{members, added, in_rows}
 use Rattle.object_rows.specs.Contents.{structure_at, content_or_opening, store_of}
 use Rattle.object_rows.specs.Contexts.{IsOpenFor, IsRowContextOf}
-use Rattle.object_rows.specs.Cuts.{longest, AreCut}
+use Rattle.object_rows.specs.Cuts.{longest, IsCutOf, AreCut}
 use Rattle.object_rows.specs.Code.Opening.{OpensOne}
 use Rattle.object_rows.proofs.ListLemmas.{meets_length, has_more, no_members}
 use Rattle.object_rows.proofs.Numbering.{some_numbers, only_number}
 use Rattle.object_rows.proofs.Adding.{all_added_more, length_in_rows}
 
 -- the structures of these numbers are open, and their pieces in rows
-pub record AreOpened {T R In : Type 0} (content : T → Objects) (is_context_of : R → BatchContext T In → Type 0) (cut : Objects → List Call → List In → Type 0)
+pub record AreOpened {T R In : Type 0} (content : T → Objects) (is_context_of : R → BatchContext T In → Type 0) (cut : T → List Call → List In → Type 0)
     (most : ℕ) (was : Row T R) (calls : List Call) (now : Row T R) (numbers : List ℕ) (ins : List (Members In)) : Type 0 where
   pub lists : List (List In)
   pub opened : AllMeet (IsOpenFor content is_context_of (store_of content was.closed) calls) now.called.items lists
   pub are : map (λ called. called.number) now.called.items ≡ numbers
-  pub each : AllMeet (λ number list. cut (store_of content was.closed number) (calls_at number calls) list) numbers lists
+  pub each : AllMeet (IsCutOf content cut (store_of content was.closed) calls) numbers lists
   pub few : AllByRecursion (λ list. (1 ≤ length list) × (length list ≤ most)) lists
   pub rows : members ins ≡ in_rows lists
   pub others : (q : ℕ) → structure_at now.closed q ≡ (if has q numbers then None else structure_at was.closed q)
 
-module _ {T R In : Type 0} (content : T → Objects) (is_context_of : R → BatchContext T In → Type 0) (cut : Objects → List Call → List In → Type 0)
+module _ {T R In : Type 0} (content : T → Objects) (is_context_of : R → BatchContext T In → Type 0) (cut : T → List Call → List In → Type 0)
     (most : ℕ) (was : Row T R) (calls : List Call) where
   pub none_opened : was.called.items ≡ [] → AreOpened content is_context_of cut most was calls was [] []
   none_opened none = record {
@@ -51,7 +51,7 @@ module _ {T R In : Type 0} (content : T → Objects) (is_context_of : R → Batc
     same_store number new = ap (content_or_opening content) (a.others number ∙ ap (λ b. if b then None else structure_at was.closed number) new)
 
     pub opened_more : (next : Row T R) (number : ℕ) (list : List In) (rows : List (Members In)) → OpensOne content is_context_of now next number calls list → has number numbers ≡ false
-        → cut (store_of content now.closed number) (calls_at number calls) list → (1 ≤ length list) × (length list ≤ most) → members rows ≡ added (members ins) list
+        → IsCutOf content cut (store_of content now.closed) calls number list → (1 ≤ length list) × (length list ≤ most) → members rows ≡ added (members ins) list
         → AreOpened content is_context_of cut most was calls next (numbers ++ number ∷ []) rows
     opened_more next number list rows opens new is_cut few more = record {
       lists = a.lists ++ list ∷ [];
@@ -59,8 +59,8 @@ module _ {T R In : Type 0} (content : T → Objects) (is_context_of : R → Batc
           (meets_more (IsOpenFor content is_context_of (store_of content was.closed) calls) now.called.items a.lists opens.called list a.opened moved);
       are = ap (map (λ (called : Called R). called.number)) opens.opened ∙ map-append (λ (called : Called R). called.number) now.called.items (opens.called ∷ [])
           ∙ ap (λ l. l ++ opens.called.number ∷ []) a.are ∙ ap (λ n. numbers ++ n ∷ []) opens.numbered;
-      each = meets_more (λ number list. cut (store_of content was.closed number) (calls_at number calls) list) numbers a.lists number list a.each
-          (subst (λ o. cut o (calls_at number calls) list) (same_store number new) is_cut);
+      each = meets_more (IsCutOf content cut (store_of content was.closed) calls) numbers a.lists number list a.each
+          (record { before = is_cut.before; contains = is_cut.contains ∙ same_store number new; pieces = is_cut.pieces });
       few = each_append (λ list. (1 ≤ length list) × (length list ≤ most)) a.lists (list ∷ []) a.few (few, tt);
       rows = more ∙ ap (λ l. added l list) a.rows ∙ sym (all_added_more [] a.lists list);
       others = others;
@@ -92,7 +92,7 @@ module _ {T R In : Type 0} (content : T → Objects) (is_context_of : R → Batc
       others = λ number none. same_store now (numbers_of calls) ins a number none;
     }
 
-    pub are_cut : AreCut cut (store_of content was.closed) calls ins
+    pub are_cut : AreCut content cut (store_of content was.closed) calls ins
     are_cut = record { lists = a.lists; each = a.each; count = length_in_rows ins a.lists a.rows }
 
     longest_most : (lists : List (List In)) → AllByRecursion (λ list. (1 ≤ length list) × (length list ≤ most)) lists → longest lists ≤ most
@@ -116,14 +116,14 @@ module _ {T R In : Type 0} (content : T → Objects) (is_context_of : R → Batc
 
   -- the structure of one number is open, and has all calls
   pub only_opened : (next : Row T R) (number : ℕ) (list : List In) (rows : List (Members In)) → was.called.items ≡ [] → 0 < length calls → calls_at number calls ≡ calls
-      → OpensOne content is_context_of was next number calls list → cut (store_of content was.closed number) calls list → (1 ≤ length list) × (length list ≤ most) → members rows ≡ added [] list
+      → OpensOne content is_context_of was next number calls list → IsCutOf content cut (store_of content was.closed) calls number list → (1 ≤ length list) × (length list ≤ most) → members rows ≡ added [] list
       → AreOpened content is_context_of cut most was calls next (numbers_of calls) rows
   only_opened next number list rows none some all opens is_cut few more =
       subst (λ numbers. AreOpened content is_context_of cut most was calls next numbers rows) (sym (only_number number calls some all))
-      (opened_more was [] [] (none_opened none) next number list rows opens refl (subst (λ own. cut (store_of content was.closed number) own list) (sym all) is_cut) few more)
+      (opened_more was [] [] (none_opened none) next number list rows opens refl is_cut few more)
 
 -- no calls open none
-pub none_called : {T R In : Type 0} (content : T → Objects) (is_context_of : R → BatchContext T In → Type 0) (cut : Objects → List Call → List In → Type 0) (was : Row T R) (calls : List Call) (ins : List (Members In))
+pub none_called : {T R In : Type 0} (content : T → Objects) (is_context_of : R → BatchContext T In → Type 0) (cut : T → List Call → List In → Type 0) (was : Row T R) (calls : List Call) (ins : List (Members In))
     → was.called.items ≡ [] → ins ≡ [] → length calls ≡ 0 → IsRowContextOf content is_context_of was (record { before = store_of content was.closed; calls = calls; ins = ins })
 none_called content is_context_of cut was calls ins closed none no_calls =
     let empty = no_members calls (λ some. omega (arith, some, no_calls)) in

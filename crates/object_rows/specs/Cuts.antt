@@ -13,9 +13,16 @@ abbrev pub longest : {X : Type 0} → List (List X) → ℕ
 longest [] = 0
 longest (list ∷ lists) = max (length list) (longest lists)
 
+-- the pieces are those that a structure with the content of the number cuts the number's calls into
+pub record IsCutOf {T In : Type 0} (content : T → Objects) (cut : T → List Call → List In → Type 0) (store : Store)
+    (calls : List Call) (number : ℕ) (ins : List In) : Type 0 where
+  pub before : T
+  pub contains : content before ≡ store number
+  pub pieces : cut before (calls_at number calls) ins
+
 -- the calls of each number are cut into pieces, and there are as many places as the most pieces of a number
-pub record AreCut {In : Type 0} (cut : Objects → List Call → List In → Type 0) (store : Store) (calls : List Call)
-    (ins : List (Members In)) : Type 0 where
+pub record AreCut {T In : Type 0} (content : T → Objects) (cut : T → List Call → List In → Type 0) (store : Store)
+    (calls : List Call) (ins : List (Members In)) : Type 0 where
   pub lists : List (List In)
-  pub each : AllMeet (λ number list. cut (store number) (calls_at number calls) list) (numbers_of calls) lists
+  pub each : AllMeet (IsCutOf content cut store calls) (numbers_of calls) lists
   pub count : length ins ≡ longest lists

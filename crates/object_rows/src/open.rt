@@ -2,10 +2,10 @@
 ghost use Rattle.std.specs.Prelude.{◌≡◌, ◌==◌, ◌≤◌, ◌<◌, ℕ, [], List, length, None, if◌then◌else◌, IfOk};
 ghost use Rattle.seq_objects.specs.declared.call.Call.{Call as CallOf};
 ghost use Rattle.seq_objects.specs.Batches.{AreOneBatch, calls_at};
-ghost use Rattle.object_rows.specs.Contents.{structure_at, store_of};
+ghost use Rattle.object_rows.specs.Contents.{structure_at, store_of, MayServeOwn};
 ghost use Rattle.object_rows.specs.Contexts.{IsRowContextOf};
 ghost use Rattle.object_rows.specs.Code.Opening.{OpensOne};
-ghost use Rattle.object_rows.specs.Cuts.{AreCut};
+ghost use Rattle.object_rows.specs.Cuts.{IsCutOf, AreCut};
 
 use crate::by_number::ByNumber;
 use crate::dealt::{are_all_at, deal, take_leading};
@@ -41,9 +41,11 @@ fn open_one<T: Batched, F: Fresh<T>>(
 ) -> Result<Vec<T::In>, AllocError>
     requires batch { AreOneBatch own.now }
     requires one { calls_at number own.now ≡ own.now }
-    requires may { T.may_serve (store_of T.content row.old.closed number) own.now }
+    requires may { (structure : T) → T.content structure ≡ store_of T.content row.old.closed number
+        → T.may_serve structure own.now }
     ensures count { IfOk result (λ v. (1 ≤ length v.items) × (length v.items ≤ T.MOST)) }
-    ensures cut { IfOk result (λ v. T.cut (store_of T.content row.old.closed number) own.now v.items) }
+    ensures cut { IfOk result (λ v. (calls : List CallOf) → calls_at number calls ≡ own.now
+        → IsCutOf T.content T.cut (store_of T.content row.old.closed) calls number v.items) }
     ensures opens { IfOk result (λ v. (calls : List CallOf) → calls_at number calls ≡ own.now
         → OpensOne T.content T.is_context_of row.old row.new number calls v.items) }
 {
@@ -65,10 +67,10 @@ fn open_several<T: Batched, F: Fresh<T>>(
 ) -> Result<RowList<T::In>, AllocError>
     requires batch { AreOneBatch calls.now }
     requires closed { row.old.called.items ≡ [] }
-    requires may { (number : ℕ) → T.may_serve (store_of T.content row.old.closed number) (calls_at number calls.now) }
+    requires may { MayServeOwn T.content T.may_serve (store_of T.content row.old.closed) calls.now }
     ensures most { IfOk result (λ v. length v.items ≤ T.MOST) }
     ensures some { IfOk result (λ v. 1 ≤ length v.items) }
-    ensures cut { IfOk result (λ v. AreCut T.cut (store_of T.content row.old.closed) calls.now v.items) }
+    ensures cut { IfOk result (λ v. AreCut T.content T.cut (store_of T.content row.old.closed) calls.now v.items) }
     ensures context { IfOk result (λ v. IsRowContextOf T.content T.is_context_of row.new
         (record { before = store_of T.content row.old.closed; calls = calls.now; ins = v.items })) }
 {
@@ -94,10 +96,10 @@ pub fn open_row<T: Batched, F: Fresh<T>>(
 ) -> Result<RowList<T::In>, AllocError>
     requires batch { 0 < length calls.now → AreOneBatch calls.now }
     requires closed { row.old.called.items ≡ [] }
-    requires may { (number : ℕ) → T.may_serve (store_of T.content row.old.closed number) (calls_at number calls.now) }
+    requires may { MayServeOwn T.content T.may_serve (store_of T.content row.old.closed) calls.now }
     ensures most { IfOk result (λ v. length v.items ≤ T.MOST) }
     ensures some { IfOk result (λ v. 0 < length calls.now → 1 ≤ length v.items) }
-    ensures cut { IfOk result (λ v. AreCut T.cut (store_of T.content row.old.closed) calls.now v.items) }
+    ensures cut { IfOk result (λ v. AreCut T.content T.cut (store_of T.content row.old.closed) calls.now v.items) }
     ensures context { IfOk result (λ v. IsRowContextOf T.content T.is_context_of row.new
         (record { before = store_of T.content row.old.closed; calls = calls.now; ins = v.items })) }
 {

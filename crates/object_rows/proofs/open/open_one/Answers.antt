@@ -10,7 +10,14 @@ begin-requires-clause-one g c =
     (c.args.number, subst (AllByRecursion (λ (call : Call). number_of call.op ≡ c.args.number)) c.requires.one (are_at c.args.number c.args.own.now))
 
 pub begin-requires-clause-may : goal.begin-requires-clause-may
-begin-requires-clause-may g c = rw c.in_ok-structure.ensures.content c.requires.may
+begin-requires-clause-may g c = c.requires.may c.in_ok-structure.structure c.in_ok-structure.ensures.content
+
+pub returns-clause-cut : goal.returns-clause-cut
+returns-clause-cut g c = λ calls own. record {
+  before = c.in_ok-structure.structure;
+  contains = c.in_ok-structure.ensures.content;
+  pieces = rw (sym own) at c.in_ok-rest.ensures.cut;
+}
 
 pub returns-clause-opens : goal.returns-clause-opens
 returns-clause-opens g c = λ calls own. record {

@@ -3,7 +3,6 @@ use Rattle.std.proofs.lemmas.List.{drop_more}
 use Rattle.seq_objects.specs.Objects.{number_of}
 use Rattle.seq_objects.specs.Batches.{AreOneBatch, calls_at}
 use Rattle.seq_objects.proofs.Filters.{some_are_a_batch}
-use Rattle.object_rows.specs.Contents.{store_of}
 use Rattle.object_rows.specs.Numbers.{numbers_of}
 use Rattle.object_rows.specs.Code.Dealt.{dealt_to, leading}
 use Rattle.object_rows.proofs.Numbering.{at_again}
@@ -52,7 +51,7 @@ open_one-requires-clause-one g c = λ lifetimes bounds.
     subst (λ l. calls_at number l ≡ l) (sym own) (at_again number calls)
 
 pub open_one-requires-clause-may : goal.open_one-requires-clause-may
-open_one-requires-clause-may g c = λ lifetimes bounds.
+open_one-requires-clause-may g c = λ lifetimes bounds structure is.
     let calls = c.args.calls.now in
     let dealt = c.in_ok-dealt.dealt.items in
     let from = c.loop-from.from in
@@ -65,8 +64,7 @@ open_one-requires-clause-may g c = λ lifetimes bounds.
     let own : c.as_slice.result.now ≡ calls_at number calls = c.as_slice.ensures.value ∙ c.in_ok-from.ensures.own ∙ ap (λ d. leading number (drop from d)) c.deref.ensures.value ∙ next.own in
     let numbers = take k (numbers_of calls) in
     let same = same_store g.T.Batched.content g.T.Batched.is_context_of g.T.Batched.cut g.T.Batched.MOST c.args.row.now calls c.loop-from.row numbers c.loop-from.rows.items c.loop-from.invariant.opened number next.new in
-    subst (g.T.Batched.may_serve (store_of g.T.Batched.content c.loop-from.row.closed number)) (sym own)
-    (subst (λ o. g.T.Batched.may_serve o (calls_at number calls)) (sym same) (c.requires.may number))
+    subst (g.T.Batched.may_serve structure) (sym own) (c.requires.may number structure (is ∙ same))
 
 pub loop-from-smaller : goal.loop-from-smaller
 loop-from-smaller g c =
@@ -100,11 +98,10 @@ loop-from-preserved g c =
     let opens = c.in_ok-ins.ensures.opens calls (sym own) in
     let count : length now.called.items ≡ k + 1 = ap length opens.opened ∙ length-append c.loop-from.row.called.items (opens.called ∷ []) in
     let more : take (length now.called.items) numbers ≡ take k numbers ++ number ∷ [] = ap (λ n. take n numbers) count ∙ next.more in
-    let is_cut = subst (λ l. g.T.Batched.cut (store_of g.T.Batched.content c.loop-from.row.closed number) l ins) own c.in_ok-ins.ensures.cut in
     record {
       opened = subst (λ opened. AreOpened g.T.Batched.content g.T.Batched.is_context_of g.T.Batched.cut g.T.Batched.MOST c.args.row.now calls now opened c.add_to_rows.new.rows.items) (sym more)
           (opened_more g.T.Batched.content g.T.Batched.is_context_of g.T.Batched.cut g.T.Batched.MOST c.args.row.now calls c.loop-from.row (take k numbers) c.loop-from.rows.items c.loop-from.invariant.opened
-          now number ins c.add_to_rows.new.rows.items opens next.new is_cut c.in_ok-ins.ensures.count c.in_ok-add_to_rows.ensures);
+          now number ins c.add_to_rows.new.rows.items opens next.new (c.in_ok-ins.ensures.cut calls (sym own)) c.in_ok-ins.ensures.count c.in_ok-add_to_rows.ensures);
       left = (rw c.deref.ensures.value at c.in_ok-from.ensures.behind) ∙ next.left ∙ ap (λ n. dealt_to (drop n numbers) calls) (sym count);
       within = rw c.deref.ensures.value at c.in_ok-from.ensures.within;
     }

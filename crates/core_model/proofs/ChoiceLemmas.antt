@@ -8,3 +8,4 @@ pub mod Choices
 pub mod Ready
 pub mod Progress
 pub mod Searches
+pub mod Works

@@ -3,6 +3,7 @@ use Rattle.std.specs.Prelude.{ℕ, ◌≡◌, ◌≢◌, ◌<◌, ◌≤◌, ◌
 use mathlib.Core.Option.{none}
 use prog.Atomic.{either}
 use Rattle.atomic_table.specs.Table.{step}
+use Rattle.sp_order.specs.declared.node.Kind.TheVariants.{LeafNode}
 use Rattle.core_model.specs.Next.{next_act}
 use Rattle.core_model.specs.declared.next.Next.TheVariants as acts
 use Rattle.core_model.specs.Settings.{job_with}
@@ -62,7 +63,7 @@ pub record EachCallRefines (work : ℕ → ℕ) (key : Setting) (slots id k : �
       → StepRefines (job_with work key) (room_of key) slots id (v, xs) (node_at key.workers n) (λ y. READY)
       (λ y. plays.opened (step slots (node_at key.workers n) READY 0 none) (v, xs) READY) (MakesEvent (job_with work key) k event)
   -- a keep of the value that is due
-  pub keep : (n start x : ℕ) → v.own.task ≡ Started n start → IsKeepDueWith work (next_act (job_with work key) v.own.task v.own.call) x → v.own.call ≢ Out
+  pub keep : (n start x : ℕ) → v.own.task ≡ Started n start → IsKeepDueWith work (job_with work key).source v.own.told (next_act (job_with work key) v.own.task v.own.call) x → v.own.call ≢ Out
       → StepRefines (job_with work key) (room_of key) slots id (v, xs) (value_at key.workers (job_with work key).plan.count n) (λ y. x)
       (λ y. plays.kept (step slots (value_at key.workers (job_with work key).plan.count n) x 0 none) (v, xs) x)
       (MakesEvent (job_with work key) k (Keep n start x))
@@ -122,7 +123,7 @@ pub record EachCallRefines (work : ℕ → ℕ) (key : Setting) (slots id k : �
       (λ y. plays.stopped_all work (step slots (stop_at key.workers) 1 0 none) (v, xs) 1) Stutters
   pub stopped : StepRefines (job_with work key) (room_of key) slots id (v, xs) (stop_at key.workers) (λ y. y)
       (plays.looked_at_stop work (step slots (stop_at key.workers) 0 0 none) (v, xs)) Stutters
-  pub source_value : (n start leaf source : ℕ) (op : Op) → next_act (job_with work key) v.own.task v.own.call ≡ Some (acts.Call n start leaf op) → (job_with work key).source leaf ≡ Some source
+  pub source_value : (n start leaf source : ℕ) → v.own.task ≡ Started n start → (job_with work key).plan.kind n ≡ Some (LeafNode leaf) → (job_with work key).source leaf ≡ Some source
       → StepRefines (job_with work key) (room_of key) slots id (v, xs) (value_at key.workers (job_with work key).plan.count ((job_with work key).plan.node_of source)) (λ y. y)
       (plays.looked_at_value (step slots (value_at key.workers (job_with work key).plan.count ((job_with work key).plan.node_of source)) 0 0 none) (v, xs)) Stutters
   pub admit : StepRefines (job_with work key) (room_of key) slots id (v, xs) (count_at key.workers) (λ y. y)

@@ -91,7 +91,7 @@ impl<B: WorkBrand> CoreTable<B> {
         }
     }
 
-    /// The source of the leaf that the pass is to call for. Memory: none.
+    /// The source of the leaf that the pass is to call or to work for. Memory: none.
     pub(crate) fn source_due(&self, pass: &Pass) -> u32
         requires pass { IsPassOf self.now pass.now }
         requires due { IsSourceDue (job_in self.now).source (next_in self.now (pass_view pass.now)) }

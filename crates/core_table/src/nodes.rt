@@ -141,7 +141,8 @@ impl<B: WorkBrand> CoreTable<B> {
         side.node
     }
 
-    /// The value of the source of the leaf that is to call. The source is done. May be asked again. Memory: none.
+    /// The value of the source of the leaf that is to call or to work. The source is done. May be asked again. Memory:
+    /// none.
     pub fn source_value(&self, pass: &mut Pass) -> u64
         requires pass { IsPassOf self.now pass.old }
         requires due { IsSourceDue (job_in self.now).source (next_in self.now (pass_view pass.old)) }
@@ -149,16 +150,19 @@ impl<B: WorkBrand> CoreTable<B> {
         ensures told { view pass.new ≡ with_step (telling result) (view pass.old) }
     {
         self.laws_hold();
+        plan_stands_for_tree();
         let source = self.source_due(pass);
         let at = self.layout().value(self.setting.job.node_of(source));
         self.table.shared.load::<LookAtValue>(&mut pass.seat, at)
     }
 
-    /// Stores the value of the started leaf: that of its work, or the reply that its call got.
+    /// Stores the value of the started leaf: that of its work on its number, or the reply that its call got. The number of
+    /// a leaf with a source is the low 32 bits of what `source_value` told.
     pub fn keep(&self, pass: &mut Pass, value: u64)
         requires pass { IsPassOf self.now pass.old }
         requires free { IsNotTrapped pass.old }
-        requires due { IsKeepDueWith B.work (next_in self.now (pass_view pass.old)) value }
+        requires due { IsKeepDueWith B.work (job_in self.now).source (pass_view pass.old).told
+            (next_in self.now (pass_view pass.old)) value }
         ensures pass { IsPassOf self.now pass.new }
         ensures kept { (n : ℕ) × (start : ℕ) × ((view pass.old).own.task ≡ Started n start)
             × (view pass.new ≡ with_step (keeping n start value) (view pass.old)) }

@@ -84,8 +84,8 @@ impl<B: WorkBrand> CoreTable<B> {
         &self.setting.job
     }
 
-    /// The source of a leaf: the leaf whose reply is the argument of its call. `None` if it has none, and for a number
-    /// past the last leaf. Memory: none.
+    /// The source of a leaf: the leaf whose value it takes. `None` if it has none, and for a number past the last leaf.
+    /// Memory: none.
     pub fn source(&self, leaf: u32) -> Option<u32>
         ensures { result ≡ (job_in self.now).source leaf }
     {

@@ -1,8 +1,10 @@
 //! The execution of a claimed node.
-ghost use Rattle.std.specs.Prelude.{◌≡◌, Some, [], IfOk, IfErr};
+ghost use Rattle.std.specs.Prelude.{ℕ, ◌≡◌, Some, [], IfOk, IfErr};
+ghost use Rattle.core_model.specs.declared.next.Next.TheVariants as acts;
 ghost use Rattle.core_table.specs.Passes.{IsPassOf, job_in, next_in, pass_view};
 ghost use Rattle.worker_crew.specs.Words.{Idle};
 ghost use Rattle.piece_board.specs.Boards.{desk_view};
+ghost use Rattle.table_rule.specs.DueActs.{number_told};
 ghost use Rattle.worker_crew.specs.Passes.{IsFree};
 ghost use Rattle.worker_crew.specs.Workers.{me_seen, IsMeOf};
 ghost use Rattle.worker_turns.specs.Stops.{IsStop};
@@ -10,12 +12,33 @@ ghost use Rattle.worker_turns.specs.Free.{RanToIdle};
 
 use crate::calling::make_call;
 use core_model::Next;
+use core_table::{CoreTable, Pass};
 use leaf_work::{LeafWork, WorkBrand};
 use run_points::{Pause, Point};
 use seq_objects::value;
+use sp_order::low_bits;
 use std::alloc::Global;
 use std::sync::Wait;
 use worker_crew::{Crew, Me, Stop};
+
+/// The number of the due work: that of its act; where the leaf has a source, the low 32 bits of the source's value.
+fn number_due<B: WorkBrand>(
+    table: &CoreTable<B>,
+    pass: &mut Pass,
+    leaf: u32,
+    steps: u32,
+) -> u32
+    requires pass { IsPassOf table.now pass.old }
+    requires due { (n : ℕ) × (start : ℕ) × (next_in table.now (pass_view pass.old) ≡ Some (acts.Spin n start leaf steps)) }
+    ensures pass { IsPassOf table.now pass.new }
+    ensures number { number_told steps ((job_in table.now).source leaf) (pass_view pass.new).told ≡ Some result }
+    ensures seen { pass_view pass.new ≡ record (pass_view pass.old) { told = (pass_view pass.new).told } }
+{
+    if table.source(leaf).is_none() {
+        return steps;
+    }
+    low_bits(table.source_value(pass))
+}
 
 /// Makes the worker's next act. A `Call` takes as long as the call.
 fn make_act<G: Pause, B: WorkBrand, W: LeafWork, R: Wait>(
@@ -50,8 +73,9 @@ fn make_act<G: Pause, B: WorkBrand, W: LeafWork, R: Wait>(
                 return Err(Stop::Memory);
             }
         }
-        Next::Spin { steps, .. } => {
-            let worked = crew.work.run(alloc, steps)?;
+        Next::Spin { leaf, steps, .. } => {
+            let number = number_due(&crew.table, &mut me.pass, leaf, steps);
+            let worked = crew.work.run(alloc, number)?;
             crew.table.keep(&mut me.pass, u64::from(worked));
         }
         Next::Call { leaf, op, .. } => {

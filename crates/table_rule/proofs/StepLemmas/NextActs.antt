@@ -74,11 +74,20 @@ pub record WorksOn (job : CoreJob) (told : Maybe ℕ) (n value : ℕ) : Type 0 w
   pub told : number_told steps (job.source leaf) told ≡ Some number
   pub is : value ≡ job.work number
 
--- the leaf has started, and its value is this: that of its reply, or of its work
+-- the value of the leaf at node `n` is this: that of its reply, or of its work
+abbrev pub KeepsAt : CoreJob → Maybe ℕ → CallState → ℕ → ℕ → Type 0
+KeepsAt job told call n value =
+    ((worked : Maybe ℕ) → value_in (job.act (leaf_of (job.plan.kind n))) worked call ≡ Some value) ⊎ WorksOn job told n value
+
+-- the leaf has started, and its value is this
 abbrev pub MayKeep : CoreJob → Maybe ℕ → Task → CallState → ℕ → Type 0
-MayKeep job told task call value =
-    (n : ℕ) × (start : ℕ) × (task ≡ Started n start)
-    × (((worked : Maybe ℕ) → value_in (job.act (leaf_of (job.plan.kind n))) worked call ≡ Some value) ⊎ WorksOn job told n value)
+MayKeep job told task call value = (n : ℕ) × (start : ℕ) × (task ≡ Started n start) × KeepsAt job told call n value
+
+pub keeps_at : (job : CoreJob) (told : Maybe ℕ) (task : Task) (call : CallState) (value n start : ℕ) → MayKeep job told task call value → task ≡ Started n start → KeepsAt job told call n value
+keeps_at job told task call value n start may at =
+    let both : Started may.0 may.1 ≡ Started n start = sym may.2 ∙ at in
+    let same : may.0 ≡ n = cc in
+    subst (λ (y : ℕ). KeepsAt job told call y value) same may.3
 
 module _ (job : CoreJob) (task : Task) (call : CallState) where
   -- what a post or a keep that is due says of the task

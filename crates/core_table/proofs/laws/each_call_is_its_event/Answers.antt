@@ -4,7 +4,7 @@ use Rattle.core_model.specs.Operations.{leaf_of}
 use Rattle.core_model.specs.Events.{value_in}
 use Rattle.core_model.specs.declared.next.Next.TheVariants as acts
 use Rattle.table_rule.proofs.StepLemmas.Sides.{started_in}
-use Rattle.table_rule.proofs.StepLemmas.NextActs.{has_value, may_post, next_stands}
+use Rattle.table_rule.proofs.StepLemmas.NextActs.{keeps_at, may_keep, may_post, next_stands}
 use Rattle.core_model.specs.Settings.{job_with}
 use Rattle.core_table.proofs.PassLemmas.PassKept.{known_with, room_with}
 use Rattle.table_rule.specs.Shows.{room_of}
@@ -26,11 +26,9 @@ returns-clause-calls c work key sound slots id k v xs is =
       end = λ n start due inside. nodes.ends job room laws slots id v xs k is.worker is.to is.workers is.enrolled (known_with work v key is.job) n start is.task due inside;
       open_side = λ n task event due inside. nodes.opens job room laws slots id v xs k is.worker is.to is.workers is.enrolled (known_with work v key is.job) n task event is.task due inside;
       keep = λ n start x task due inside.
-          let value = has_value job laws v.own.call v.own.task x is.task due in
-          let both = sym value.2 ∙ task in
-          let at : value.0 ≡ n = cc in
-          nodes.keeps_value job room laws slots id v xs k is.worker is.to is.workers is.enrolled (known_with work v key is.job) _ n start x refl task (started_in job v.own.task n start task is.task)
-          (subst (λ (y : ℕ). value_in job.work (job.act (leaf_of (job.plan.kind y))) v.own.call ≡ Some x) at value.3) inside;
+          let may = may_keep job laws v.own.call v.own.told v.own.task x is.task due in
+          nodes.keeps_value job room laws slots id v xs k is.worker is.to is.workers is.enrolled (known_with work v key is.job) _ x
+          (n, start, task, keeps_at job v.own.told v.own.task v.own.call x n start may task) refl (started_in job v.own.task n start task is.task) inside;
       finish = λ n event due inside. nodes.finishes job room laws slots id v xs k is.worker is.to is.workers is.enrolled (known_with work v key is.job) n event is.task due inside;
       arrive = λ p l r n due inside. nodes.arrives job room laws slots id v xs k is.worker is.to is.workers is.enrolled (known_with work v key is.job) _ p l r n refl is.task due inside;
       post = λ n start call task due.
@@ -49,9 +47,8 @@ returns-clause-calls c work key sound slots id k v xs is =
       since = looks.hears job room laws slots id v xs k is.worker is.to is.workers;
       stop = looks.stops job room laws slots id v xs k is.worker is.to is.workers (known_with work v key is.job) is.room;
       stopped = looks.looks_at_stop job room laws slots id v xs k is.worker is.to is.workers (known_with work v key is.job) is.room;
-      source_value = λ n start leaf source op due from.
-          let stands = next_stands job laws v.own.call v.own.task (acts.Call n start leaf op) is.task due in
-          looks.looks_at_value job room laws slots id v xs k is.worker is.to _ n start leaf source is.workers is.nodes stands.0 stands.2 from refl;
+      source_value = λ n start leaf source task kind from.
+          looks.looks_at_value job room laws slots id v xs k is.worker is.to _ n start leaf source is.workers is.nodes task kind from refl;
       admit = publishing.admits job room laws slots id v xs k is.worker is.to _ is.workers is.room sound.workers;
     }
 

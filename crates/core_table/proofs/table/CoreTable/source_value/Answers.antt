@@ -1,10 +1,14 @@
 use Rattle.core_model.specs.Settings.{job_with}
-use Rattle.std.proofs.Common.{refl, arith}
+use Rattle.std.proofs.Common.{Some, refl, arith}
 use Rattle.table_rule.specs.Passes.{telling}
 use Rattle.table_rule.specs.Views.{with_step}
 use Rattle.table_rule.specs.Shows.{room_of}
 use Rattle.sp_order.specs.declared.node.Kind.TheVariants.{LeafNode}
-use Rattle.core_model.proofs.BookLemmas.CallsIn.{call_within}
+use Rattle.core_model.proofs.BookLemmas.LeavesIn.{leaves_in}
+use Rattle.core_model.specs.Ranges.{LeafIn}
+use Rattle.sp_order.specs.Jobs.{job_tree}
+use Rattle.sp_order.specs.Precedence.{leaves}
+use Rattle.sp_order.specs.Preorder.{nodes_of}
 use Rattle.table_rule.proofs.StepLemmas.Sides.{block_in}
 use Rattle.table_rule.proofs.StepLemmas.LookSteps.{looks_at_value}
 use Rattle.core_table.proofs.PassLemmas.PassKept.{pass_kept}
@@ -15,8 +19,11 @@ node_of-requires g c =
     let self = c.args.self.now in
     let laws = c.laws_hold.ensures self.setting refl in
     let (n, start, leaf, task, kind, from) = c.source_due-source.ensures in
-    let within = call_within self.setting.job.acts c.source_due-source.result (laws.sources n leaf c.source_due-source.result kind from).calls in
-    omega (arith, within, self.acts.0)
+    let source = c.source_due-source.result in
+    let tree = job_tree self.setting.job in
+    let low : LeafIn (leaves tree) (Some (LeafNode source)) = rw (laws.sources n leaf source kind from).stands at
+        (leaves_in (nodes_of tree) tree (leaves tree) (c.plan_stands_for_tree.ensures tree) refl ((nodes_of tree).node_of source)) in
+    low
 
 pub load-requires : goal.load-requires
 load-requires g c =

@@ -1,10 +1,10 @@
 //! The structures of one kind, which share a row of places.
-ghost use Rattle.std.specs.Prelude.{◌≡◌, ◌+◌, ◌^◌, ◌<◌, ◌++◌, ℕ, [], length, map, IfOk, OnOk};
-ghost use Rattle.seq_objects.specs.Batches.{AreOneBatch, calls_of, calls_at};
+ghost use Rattle.std.specs.Prelude.{◌≡◌, ◌+◌, ◌^◌, ◌<◌, ◌++◌, [], length, map, IfOk, OnOk};
+ghost use Rattle.seq_objects.specs.Batches.{AreOneBatch, calls_of};
 ghost use Rattle.seq_objects.specs.Pieces.{AllMeet};
 ghost use Rattle.object_rows.specs.declared.members.Members.TheVariants.{One as OneOf};
 ghost use Rattle.object_rows.specs.Rows.{MembersMeet};
-ghost use Rattle.object_rows.specs.Contents.{store_of};
+ghost use Rattle.object_rows.specs.Contents.{store_of, MayServeOwn};
 ghost use Rattle.object_rows.specs.Contexts.{RowContext, IsRowContextOf};
 ghost use Rattle.launch_batch.specs.ByStructure.{placed};
 ghost use Rattle.launch_batch.specs.Code.Committing.{ServesOwn};
@@ -124,8 +124,7 @@ pub(crate) fn open<T: Kind>(
 ) -> Result<(), AllocError>
     requires batch { AreOneBatch calls.now }
     requires closed { row.old.called.items ≡ [] }
-    requires may { (number : ℕ)
-        → T.may_serve (store_of T.content row.old.closed number) (calls_at number (calls_of T.kind calls.now)) }
+    requires may { MayServeOwn T.content T.may_serve (store_of T.content row.old.closed) (calls_of T.kind calls.now) }
     requires fit { first + T.MOST < 2 ^ 32 }
     ensures { OnOk result (OpensOwn T.content T.is_context_of T.cut T.MOST T.at first row.old row.new
         (calls_of T.kind calls.now) pieces.old.items pieces.new.items) }
@@ -188,8 +187,7 @@ pub(crate) fn serve<T: Kind>(
 ) -> Result<(), AllocError>
     requires batch { AreOneBatch calls.now }
     requires closed { row.old.called.items ≡ [] }
-    requires may { (number : ℕ)
-        → T.may_serve (store_of T.content row.old.closed number) (calls_at number (calls_of T.kind calls.now)) }
+    requires may { MayServeOwn T.content T.may_serve (store_of T.content row.old.closed) (calls_of T.kind calls.now) }
     ensures { OnOk result (ServesOwn T.content row.new (store_of T.content row.old.closed)
         (calls_of T.kind calls.now) replies.old.items replies.new.items) }
 {

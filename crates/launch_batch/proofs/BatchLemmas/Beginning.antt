@@ -4,12 +4,14 @@ use Rattle.launch_batch.proofs.Words.{AllByRecursion, Call, number_of, AreDistin
 use Rattle.seq_objects.specs.Batches.{AreOf}
 use Rattle.seq_objects.proofs.Filters.{are_of}
 use Rattle.object_rows.specs.declared.row.Row.{Row}
-use Rattle.object_rows.specs.Contents.{structure_at, content_or_opening, store_of}
+use Rattle.object_rows.specs.Contents.{structure_at, content_or_opening, store_of, MayServeOwn}
 use Rattle.object_rows.specs.Contexts.{IsRowContextOf}
 use Rattle.object_rows.specs.Cuts.{AreCut}
 use Rattle.batched_counter.specs.Calls.{MayServe as MayAdd}
 use Rattle.object_rows.proofs.ListLemmas.{no_members}
 use Rattle.object_rows.proofs.Opening.{none_called}
+use Rattle.launch_batch.specs.declared.structures.Structures.{Structures}
+use Rattle.launch_batch.specs.Contents.{ShopInvariant}
 use Rattle.launch_batch.specs.Code.Committing.{ServesOwn}
 use Rattle.launch_batch.specs.Code.Rows.{OpensOwn}
 use Rattle.launch_batch.proofs.ListLemmas.Same.{each_same, distinct_same, length_same}
@@ -34,10 +36,10 @@ one_batch calls ordered some workers below same order = record {
   below = each_same (λ (c : Call). c.worker < 32) calls ordered same below;
 }
 
--- a counter does not overflow
-pub may_add : (book : List (List Entry)) (calls ordered : List Call) (number counter : ℕ) → MayServe book calls → ArePermutations calls ordered → AllByRecursion IsNarrow ordered
-    → counter ≤ length (flat book) * 2 ^ 32 → MayAdd (of_counter counter) (calls_at number (calls_of Counter ordered))
-may_add book calls ordered number counter may same narrow room = record {
+-- no counter overflows
+pub may_add : (structures : Structures) (book : List (List Entry)) (calls ordered : List Call) → ShopInvariant structures book → MayServe book calls → ArePermutations calls ordered
+    → AllByRecursion IsNarrow ordered → MayServeOwn of_counter MayAdd (store_of of_counter structures.counter.closed) (calls_of Counter ordered)
+may_add structures book calls ordered i may same narrow number counter is = record {
   adds = own_at Counter number ordered;
   fits =
       let own = calls_of Counter ordered in
@@ -47,7 +49,9 @@ may_add book calls ordered number counter may same narrow room = record {
       let fewer = few_pass (λ (call : Call). same_kind Counter (kind_of call.op)) ordered in
       let many = length_same calls ordered same in
       let most = may.most in
-      omega (arith, small, few, fewer, many, most, room);
+      let now : counter ≡ (served_book book number).counter = ap (λ (o : Objects). o.counter) (is ∙ i.counter.contents number) in
+      let room = i.room number in
+      omega (arith, small, few, fewer, many, most, now, room);
 }
 
 -- some kind has a call
@@ -75,9 +79,9 @@ store_is : {T R : Type 0} (content : T → Objects) (kind : Kind) (row : Row T R
     → store_of content row.closed ≡ store_of_kind kind (served_book history)
 store_is content kind row history m = λ i number. m.contents number i
 
-pub cut_for : {T R In : Type 0} (content : T → Objects) (kind : Kind) (cut : Objects → List Call → List In → Type 0) (row : Row T R) (history : List (List Entry)) (calls : List Call) (ins : List (Members In))
-    → MatchesHistory content kind row history → AreCut cut (store_of content row.closed) calls ins → AreCut cut (store_of_kind kind (served_book history)) calls ins
-cut_for content kind cut row history calls ins m is = subst (λ store. AreCut cut store calls ins) (store_is content kind row history m) is
+pub cut_for : {T R In : Type 0} (content : T → Objects) (kind : Kind) (cut : T → List Call → List In → Type 0) (row : Row T R) (history : List (List Entry)) (calls : List Call) (ins : List (Members In))
+    → MatchesHistory content kind row history → AreCut content cut (store_of content row.closed) calls ins → AreCut content cut (store_of_kind kind (served_book history)) calls ins
+cut_for content kind cut row history calls ins m is = subst (λ store. AreCut content cut store calls ins) (store_is content kind row history m) is
 
 pub context_for : {T R In : Type 0} (content : T → Objects) (kind : Kind) (is_context_of : R → BatchContext T In → Type 0) (row now : Row T R) (history : List (List Entry)) (calls : List Call)
     (ins own : List (Members In)) → MatchesHistory content kind row history → own ≡ ins
@@ -93,7 +97,7 @@ pub served_for : {T R : Type 0} (content : T → Objects) (kind : Kind) (row now
 served_for content kind row now history calls earlier replies m is = subst (λ store. ServesOwn content now store calls earlier replies) (store_is content kind row history m) is
 
 -- where a kind has no calls, none of its structures is opened
-pub none_opened : {T R In : Type 0} (content : T → Objects) (is_context_of : R → BatchContext T In → Type 0) (cut : Objects → List Call → List In → Type 0) (most : ℕ) (make : ℕ → Members In → PieceIn) (first : ℕ)
+pub none_opened : {T R In : Type 0} (content : T → Objects) (is_context_of : R → BatchContext T In → Type 0) (cut : T → List Call → List In → Type 0) (most : ℕ) (make : ℕ → Members In → PieceIn) (first : ℕ)
     (row : Row T R) (calls : List Call) (pieces : List PieceIn) → row.called.items ≡ [] → length calls ≡ 0 → OpensOwn content is_context_of cut most make first row row calls pieces pieces
 none_opened content is_context_of cut most make first row calls pieces closed none = record {
   ins = [];

@@ -14,12 +14,12 @@ use Rattle.launch_batch.specs.ByStructure.{placed}
 -- The structures that these calls of their kind call are open. Their pieces, at most `most`, stand behind the earlier
 -- ones, at consecutive places from `first` on.
 pub record OpensOwn {T R In : Type 0} (content : T → Objects) (is_context_of : R → BatchContext T In → Type 0)
-    (cut : Objects → List Call → List In → Type 0) (most : ℕ) (make : ℕ → Members In → PieceIn) (first : ℕ)
+    (cut : T → List Call → List In → Type 0) (most : ℕ) (make : ℕ → Members In → PieceIn) (first : ℕ)
     (was now : Row T R) (calls : List Call) (earlier pieces : List PieceIn) : Type 0 where
   pub ins : List (Members In)
   pub behind : pieces ≡ earlier ++ placed make first ins
   pub few : length ins ≤ most
   pub some : 0 < length calls → 1 ≤ length ins
-  pub are_cut : AreCut cut (store_of content was.closed) calls ins
+  pub are_cut : AreCut content cut (store_of content was.closed) calls ins
   pub context : IsRowContextOf content is_context_of now
       (record { before = store_of content was.closed; calls = calls; ins = ins })

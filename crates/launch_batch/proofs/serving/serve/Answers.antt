@@ -1,25 +1,22 @@
-use Rattle.std.proofs.Common.{sym, subst}
-use Rattle.batched_counter.specs.Calls.{MayServe as MayAdd}
-use Rattle.launch_batch.proofs.Words.{Counter, Stack, Tree, Queue, calls_of, calls_at}
+use Rattle.std.proofs.Common.{sym}
+use Rattle.launch_batch.proofs.Words.{Stack, Tree, Queue}
 use Rattle.launch_batch.proofs.BatchLemmas.Beginning.{own_at, may_add}
 use Rattle.launch_batch.proofs.BatchLemmas.Closing.{have_served_own}
 use Rattle.launch_batch.proofs.serving.serve.Goals as goal
 
 pub serve-requires-clause-may : goal.serve-requires-clause-may
-serve-requires-clause-may c = λ lifetimes number.
-    let i = c.shop.invariant in
-    rw (c.deref_mut-inner.ensures.value, c.as_slice-all.ensures.value)
-    (subst (λ objects. MayAdd objects (calls_at number (calls_of Counter c.put_in_batch_order.new.calls.items))) (sym (i.counter.contents number))
-    (may_add c.shop.inside.history c.args.calls.now.items c.put_in_batch_order.new.calls.items number _ (rw c.shop.view_is c.requires) c.in_ok-put_in_batch_order.ensures.same c.in_ok-put_in_batch_order.ensures.narrow (i.room number)))
+serve-requires-clause-may c = λ lifetimes.
+    rw (c.deref_mut-inner.ensures.value, c.as_slice-all.ensures.value) (may_add c.shop.inside.structures.value c.shop.inside.history c.args.calls.now.items c.put_in_batch_order.new.calls.items c.shop.invariant
+    (rw c.shop.view_is c.requires) c.in_ok-put_in_batch_order.ensures.same c.in_ok-put_in_batch_order.ensures.narrow)
 
 pub serve-requires-2-clause-may : goal.serve-requires-2-clause-may
-serve-requires-2-clause-may c = λ lifetimes number. own_at Stack number c.as_slice-all.result.now
+serve-requires-2-clause-may c = λ lifetimes number structure is. own_at Stack number c.as_slice-all.result.now
 
 pub serve-requires-3-clause-may : goal.serve-requires-3-clause-may
-serve-requires-3-clause-may c = λ lifetimes number. own_at Tree number c.as_slice-all.result.now
+serve-requires-3-clause-may c = λ lifetimes number structure is. own_at Tree number c.as_slice-all.result.now
 
 pub serve-requires-4-clause-may : goal.serve-requires-4-clause-may
-serve-requires-4-clause-may c = λ lifetimes number. own_at Queue number c.as_slice-all.result.now
+serve-requires-4-clause-may c = λ lifetimes number structure is. own_at Queue number c.as_slice-all.result.now
 
 pub commit-requires : goal.commit-requires
 commit-requires c =

@@ -1,10 +1,9 @@
-use Rattle.std.proofs.Common.{sym, subst, ◌∙◌}
-use Rattle.batched_counter.specs.Calls.{MayServe as MayAdd}
+use Rattle.std.proofs.Common.{subst, ◌∙◌}
 use Rattle.batched_counter.specs.Pieces.{Cut as CounterCut, IsContextOf as IsCounterContext}
 use Rattle.batched_stack.specs.Pieces.{Cut as StackCut, IsContextOf as IsStackContext}
 use Rattle.batched_tree.specs.Pieces.{Cut as TreeCut, IsContextOf as IsTreeContext}
 use Rattle.batched_pq.specs.Pieces.{Cut as QueueCut, IsContextOf as IsQueueContext}
-use Rattle.launch_batch.proofs.Words.{Counter, Stack, Tree, Queue, calls_of, calls_at, of_counter, of_stack, of_set, of_bag, MatchesHistory, HasRoom}
+use Rattle.launch_batch.proofs.Words.{Counter, Stack, Tree, Queue, calls_of, of_counter, of_stack, of_set, of_bag, MatchesHistory, HasRoom}
 use Rattle.launch_batch.proofs.PieceLemmas.Ascending.{some_rows}
 use Rattle.launch_batch.proofs.PieceLemmas.Rows.{in_rows}
 use Rattle.launch_batch.proofs.PieceLemmas.Counting.{rows_are}
@@ -12,20 +11,18 @@ use Rattle.launch_batch.proofs.BatchLemmas.Beginning.{own_at, may_add, some_by_k
 use Rattle.launch_batch.proofs.shop.Shop.begin.Goals as goal
 
 pub open-requires-clause-may : goal.open-requires-clause-may
-open-requires-clause-may c = λ lifetimes number.
-    let i = c.self.invariant in
-    rw (c.deref_mut-inner.ensures.value, c.as_slice-all.ensures.value)
-    (subst (λ objects. MayAdd objects (calls_at number (calls_of Counter c.put_in_batch_order.new.calls.items))) (sym (i.counter.contents number))
-    (may_add c.self.inside.history c.args.calls.items c.put_in_batch_order.new.calls.items number _ (rw c.self.view_is c.requires) c.in_ok-put_in_batch_order.ensures.same c.in_ok-put_in_batch_order.ensures.narrow (i.room number)))
+open-requires-clause-may c = λ lifetimes.
+    rw (c.deref_mut-inner.ensures.value, c.as_slice-all.ensures.value) (may_add c.self.inside.structures.value c.self.inside.history c.args.calls.items c.put_in_batch_order.new.calls.items c.self.invariant
+    (rw c.self.view_is c.requires) c.in_ok-put_in_batch_order.ensures.same c.in_ok-put_in_batch_order.ensures.narrow)
 
 pub open-requires-2-clause-may : goal.open-requires-2-clause-may
-open-requires-2-clause-may c = λ lifetimes number. own_at Stack number c.as_slice-all.result.now
+open-requires-2-clause-may c = λ lifetimes number structure is. own_at Stack number c.as_slice-all.result.now
 
 pub open-requires-3-clause-may : goal.open-requires-3-clause-may
-open-requires-3-clause-may c = λ lifetimes number. own_at Tree number c.as_slice-all.result.now
+open-requires-3-clause-may c = λ lifetimes number structure is. own_at Tree number c.as_slice-all.result.now
 
 pub open-requires-4-clause-may : goal.open-requires-4-clause-may
-open-requires-4-clause-may c = λ lifetimes number. own_at Queue number c.as_slice-all.result.now
+open-requires-4-clause-may c = λ lifetimes number structure is. own_at Queue number c.as_slice-all.result.now
 
 pub open-requires-clause-closed : goal.open-requires-clause-closed
 open-requires-clause-closed c = λ lifetimes. rw c.deref_mut-inner.ensures.value c.self.invariant.counter.closed

@@ -32,9 +32,9 @@ job_in = job_in_with spin_of
 abbrev pub state_in : CoreView → CoreState
 state_in c = core_state_of c.table
 
--- the steps of work that worker `w` has due
+-- the number of the work that worker `w` has due
 abbrev pub due_in : CoreView → ℕ → Option ℕ
-due_in c w = work_due (job_in c) ((state_of c.table).task w) ((state_of c.table).call w)
+due_in c w = work_due (job_in c) (state_of c.table).book ((state_of c.table).task w) ((state_of c.table).call w)
 
 -- the core is not spent, and the root is done
 abbrev pub is_over_in : CoreView → Bool

@@ -103,13 +103,13 @@ impl<B: WorkBrand> CoreWith<B> {
         })
     }
 
-    /// The steps of work that a worker has due: those of a working leaf that it has started.
+    /// The number of the work that a worker has due: that of a working leaf that it has started.
     fn due(&self, worker: u32) -> Option<u32>
         requires unspent { self.now.spent ≡ false }
         requires worker_in { worker < self.now.workers }
         ensures { result ≡ due_in self.now worker }
     {
-        self.table.work_due(&self.setting, worker)
+        self.table.work_due::<B>(&self.setting, worker)
     }
 
     /// The value of the work that a worker has due, if it has some. The work is done here, by `work`.
@@ -189,7 +189,7 @@ impl<B: WorkBrand> CoreWith<B> {
     }
 
     /// One turn of a worker. If the worker has work due and `spun` is `None`, the turn changes nothing and returns the
-    /// number of steps; the caller passes the work done in the next turn. If no work is due, `spun` is ignored. After
+    /// number of the work; the caller passes the work done in the next turn. If no work is due, `spun` is ignored. After
     /// an `Err` the core is spent, and each later turn is an `Err`.
     ///
     /// Memory: at most one node in a list, or one batch.

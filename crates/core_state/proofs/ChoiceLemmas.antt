@@ -1,3 +1,4 @@
 pub mod ClaimEnds
 pub mod Steals
 pub mod Allowed
+pub mod Given

@@ -1,21 +1,23 @@
 -- The work that is due for a worker, and its value.
 use Rattle.core_model.specs.Next.{next_act}
+use Rattle.core_model.specs.Operations.{number_from}
 use Rattle.core_model.specs.State.{CoreJob}
+use Rattle.core_model.specs.Words.{Entry}
 use Rattle.core_model.specs.declared.next.Next.{Next}
 use Rattle.core_model.specs.declared.next.Next.TheVariants as acts
 use Rattle.core_state.specs.Words.{CallState, Task}
-use Rattle.std.specs.Prelude.{None, Option, Some, ℕ, ◌≡◌}
+use Rattle.std.specs.Prelude.{List, None, Option, Some, ℕ, ◌≡◌}
 
--- the steps of work that an act asks for
-abbrev pub steps_of : Option Next → Option ℕ
-steps_of None = None
-steps_of (Some (acts.Spin n start steps)) = Some steps
-steps_of (Some act) = None
+-- the number of the work that an act asks for: that of its leaf under the book
+abbrev pub number_asked : CoreJob → List (List Entry) → Option Next → Option ℕ
+number_asked job book None = None
+number_asked job book (Some (acts.Spin n start leaf steps)) = number_from book steps (job.source leaf)
+number_asked job book (Some act) = None
 
--- the steps of work that the next act of a worker with this task and this call state asks for
-abbrev pub work_due : CoreJob → Task → CallState → Option ℕ
-work_due job task call = steps_of (next_act job task call)
+-- the number of the work that the next act of a worker with this task and this call state asks for
+abbrev pub work_due : CoreJob → List (List Entry) → Task → CallState → Option ℕ
+work_due job book task call = number_asked job book (next_act job task call)
 
 -- If work is due, this is its value, where the leaves of work compute `work`.
 abbrev pub IsValueOf : (ℕ → ℕ) → Option ℕ → Option ℕ → Type 0
-IsValueOf work due value = (steps : ℕ) → due ≡ Some steps → value ≡ Some (work steps)
+IsValueOf work due value = (number : ℕ) → due ≡ Some number → value ≡ Some (work number)

@@ -32,7 +32,7 @@ impl State {
             Task::Idle => self.choose_claim(setting.workers, worker),
             task => {
                 let act = setting.next(task, self.calls[worker as usize])?;
-                Some(self.event_of::<B>(act, work))
+                Some(self.event_of::<B>(setting, act, work))
             }
         }
     }

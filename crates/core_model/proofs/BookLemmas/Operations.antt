@@ -80,6 +80,14 @@ some_op job book u call there =
 pub call_value : (job : CoreJob) (book : List (List Entry)) (u : ℕ) (op : Op) → job.act u ≡ Call op → value_under job book u ≡ reply_at (place_of book u)
 call_value job book u op act = ap (λ (a : Act). value_from job.work book a (job.source u) u) act
 
+reply_for : (job : CoreJob) (book : List (List Entry)) (r v : ℕ) (act : Act) → job.act r ≡ act → IsCall job r → value_under job book r ≡ Some v → reply_at (place_of book r) ≡ Some v
+reply_for job book r v (Work k) at calls is = absurd (calls (ap op_in at))
+reply_for job book r v (Call op) at calls is = sym (call_value job book r op at) ∙ is
+
+-- the value of a leaf that calls is that of its reply
+pub reply_of : (job : CoreJob) (book : List (List Entry)) (r v : ℕ) → IsCall job r → value_under job book r ≡ Some v → reply_at (place_of book r) ≡ Some v
+reply_of job book r v calls is = reply_for job book r v (job.act r) refl calls is
+
 -- a leaf of work has a value where its source, if it has one, calls and has one
 pub work_value : (job : CoreJob) (book : List (List Entry)) (u steps : ℕ) → job.act u ≡ Work steps
     → ((r : ℕ) → job.source u ≡ Some r → IsCall job r × ((v : ℕ) × (value_under job book r ≡ Some v))) → (v : ℕ) × (value_under job book u ≡ Some v)
@@ -88,13 +96,9 @@ work_value job book u steps act there =
     let found = given (job.source u) refl in
     (found.0, ap (λ (a : Act). value_from job.work book a (job.source u) u) act ∙ found.1)
   where
-    replied : (r v : ℕ) (a : Act) → job.act r ≡ a → op_in a ≢ None → value_under job book r ≡ Some v → reply_at (place_of book r) ≡ Some v
-    replied r v (Work k) at calls is = absurd (calls refl)
-    replied r v (Call op) at calls is = sym (call_value job book r op at) ∙ is
-
     by_source : (source : Option ℕ) → job.source u ≡ source → (v : ℕ) × (value_from job.work book (Work steps) source u ≡ Some v)
     by_source None is = (job.work steps, refl)
     by_source (Some r) is =
         let at = there r is in
-        let reply = replied r at.1.0 (job.act r) refl at.0 at.1.1 in
+        let reply = reply_of job book r at.1.0 at.0 at.1.1 in
         (job.work (low_bits at.1.0), ap (λ (x : Option ℕ). option_map job.work (option_map low_bits x)) reply)

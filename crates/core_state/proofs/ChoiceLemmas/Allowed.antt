@@ -55,7 +55,7 @@ module _ {work : ℕ → ℕ} (job : JobValue) (workers : ℕ) (t : StoredState)
 
   module _ (below : w < workers) (event : Event) (chosen : choice (core_job_with work job workers) (core_state_of t) w ≡ Some event) where
     pub chosen_needs : Needs (core_job_with work job workers) (state_of t) w event
-    chosen_needs = choice_needs (core_job_with work job workers) (core_state_of t) w event h.laws below (kept_parts job workers t h) h.inv.lists chosen
+    chosen_needs = choice_needs (core_job_with work job workers) (core_state_of t) w event h.laws h.sources below (kept_parts job workers t h) h.inv.lists chosen
 
     pub chosen_in_range : IsInRange (nodes_of (job_tree job)).count workers event
     chosen_in_range = event_in (core_job_with work job workers) (state_of t) h.laws (kept_parts job workers t h) w event chosen_needs

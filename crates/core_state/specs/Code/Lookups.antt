@@ -2,11 +2,16 @@
 use Rattle.batch_history.specs.Book.{flat}
 use Rattle.core_state.specs.Abstraction.{book_of, state_of}
 use Rattle.core_model.specs.Choice.{choice_steal, last_of}
-use Rattle.core_model.specs.Settings.{HasLeaf, TaskIn, job_of}
+use Rattle.core_model.specs.Settings.{HasLeaf, TaskIn, job_of, job_with}
 use Rattle.core_state.specs.Code.Sizes.{HasShop, Sizes}
 use Rattle.core_model.specs.Invariant.Statuses.{is_taken_by}
 use Rattle.core_model.specs.Operations.{IsLeaf}
-use Rattle.core_state.specs.WorkDue.{IsValueOf, work_due}
+use Rattle.core_model.specs.Events.{HasStarted}
+use Rattle.core_model.specs.Next.{next_act, worked}
+use Rattle.core_model.specs.State.{CoreJob, State}
+use Rattle.seq_objects.specs.declared.act.Act.TheVariants.{Work}
+use Rattle.core_model.specs.declared.next.Next.{Next}
+use Rattle.core_model.specs.declared.next.Next.TheVariants as acts
 use Rattle.core_model.specs.declared.event.Event.{Event}
 use Rattle.core_model.specs.declared.event.Event.TheVariants.{Claim}
 use Rattle.core_model.specs.declared.setting.Setting.{Setting}
@@ -35,6 +40,16 @@ abbrev pub claim_choice : ℕ → (ℕ → List ℕ) → ℕ → List ℕ → Op
 claim_choice workers ready w [] = choice_steal ready workers (w + 1) (workers - 1)
 claim_choice workers ready w (n ∷ ns) = Some (Claim (last_of n ns))
 
--- if the worker has work due, this is its value, where the leaves of work compute `work`
+-- the worker has started this leaf, whose act is work on this number
+abbrev pub IsAtWork : CoreJob → State → ℕ → ℕ → ℕ → Type 0
+IsAtWork job s w leaf steps = ((n : ℕ) × HasStarted job s w n leaf) × (job.act leaf ≡ Work steps)
+
+-- if the act asks for work, this is its value, where the leaves of work compute `work`
+abbrev pub IsWorkFor : (ℕ → ℕ) → Setting → StoredState → Next → Option ℕ → Type 0
+IsWorkFor work setting t act value = (n start leaf steps : ℕ) → act ≡ acts.Spin n start leaf steps
+    → value ≡ Some (worked (job_with work setting) (state_of t).book n)
+
+-- the same of the worker's next act, if there is one
 abbrev pub IsWorkOf : (ℕ → ℕ) → Setting → StoredState → ℕ → Option ℕ → Type 0
-IsWorkOf work setting t w value = IsValueOf work (work_due (job_of setting) ((state_of t).task w) ((state_of t).call w)) value
+IsWorkOf work setting t w value = (act : Next) → next_act (job_with work setting) ((state_of t).task w) ((state_of t).call w) ≡ Some act
+    → IsWorkFor work setting t act value

@@ -1,16 +1,20 @@
 //! The choice of a worker that claims a node, the event of a next act, and the work that is due.
-ghost use Rattle.std.specs.Prelude.{◌≡◌, ◌<◌, ◌≤◌, None, Some, IsSome, IsTrue};
+ghost use Rattle.std.specs.Prelude.{ℕ, ◌≡◌, ◌<◌, ◌≤◌, None, Some, IsSome, IsTrue};
 ghost use Rattle.limits.specs.declared.TheConstants.{MOST_WORKERS};
-ghost use Rattle.core_model.specs.Next.{event_of};
-ghost use Rattle.core_model.specs.Settings.{job_of};
+ghost use Rattle.core_model.specs.Next.{event_in};
+ghost use Rattle.core_model.specs.Operations.{number_from};
+ghost use Rattle.core_model.specs.Settings.{job_of, job_with};
 ghost use Rattle.core_state.specs.Abstraction.{state_of, ready_of};
-ghost use Rattle.core_state.specs.Code.Lookups.{CanChoose, claim_choice};
-ghost use Rattle.core_state.specs.WorkDue.{steps_of, work_due, IsValueOf};
+ghost use Rattle.core_state.specs.Code.Lookups.{CanChoose, IsAtWork, IsWorkFor, claim_choice};
+ghost use Rattle.core_state.specs.Code.Representation.{Represents};
+ghost use Rattle.core_state.specs.WorkDue.{work_due};
 
 use crate::state::State;
+use core_model::laws::book::started_leaf_has_its_source;
 use core_model::{Event, Next, Setting};
 use leaf_work::WorkBrand;
 use seq_objects::value;
+use sp_order::low_bits;
 
 /// The value of the work that is due, which must be given.
 fn given(work: Option<u64>) -> u64
@@ -71,9 +75,14 @@ impl State {
 
     /// The event that an act is. `work` is the value of the work that the act asks for, if it asks for some.
     #[inline(always)]
-    pub(crate) fn event_of<B: WorkBrand>(&self, act: Next, work: Option<u64>) -> Event
-        requires { IsValueOf B.work (steps_of (Some act)) work }
-        ensures { result ≡ event_of B.work (state_of self.now).mark act }
+    pub(crate) fn event_of<B: WorkBrand>(
+        &self,
+        setting: &Setting,
+        act: Next,
+        work: Option<u64>,
+    ) -> Event
+        requires { IsWorkFor B.work setting.now self.now act work }
+        ensures { result ≡ event_in (job_with B.work setting.now) (state_of self.now) act }
     {
         match act {
             Next::Start { node, .. } => Event::Start(node),
@@ -116,17 +125,32 @@ impl State {
         }
     }
 
-    /// The steps of the leaf that the worker has started, if that leaf works rather than calls.
+    /// The number of a leaf of work: its own, or, where it has a source, the low 32 bits of the source's value.
+    fn number_of<B: WorkBrand>(&self, setting: &Setting, leaf: u32, steps: u32) -> u32
+        requires fits { Represents B.work setting.now self.now }
+        requires works { (worker : ℕ) × IsAtWork (job_with B.work setting.now) (state_of self.now) worker leaf steps }
+        ensures { number_from (state_of self.now).book steps ((job_with B.work setting.now).source leaf) ≡ Some result }
+    {
+        started_leaf_has_its_source();
+        match setting.job.source(leaf) {
+            None => steps,
+            Some(source) => low_bits(self.value_at::<B>(setting, source)),
+        }
+    }
+
+    /// The number of the leaf that the worker has started, if that leaf works rather than calls.
     #[tactic(auto, unfolding(crate::specs::Abstraction::state_of))]
-    pub fn work_due(&self, setting: &Setting, worker: u32) -> Option<u32>
+    pub fn work_due<B: WorkBrand>(&self, setting: &Setting, worker: u32) -> Option<u32>
+        requires fits { Represents B.work setting.now self.now }
         requires looks { CanChoose setting.now self.now }
         requires worker_in { worker < setting.now.workers }
-        ensures { result
-            ≡ work_due (job_of setting.now) ((state_of self.now).task worker)
-            ((state_of self.now).call worker) }
+        ensures { result ≡ work_due (job_of setting.now) (state_of self.now).book
+            ((state_of self.now).task worker) ((state_of self.now).call worker) }
     {
         match setting.next(self.tasks[worker as usize], self.calls[worker as usize]) {
-            Some(Next::Spin { steps, .. }) => Some(steps),
+            Some(Next::Spin { leaf, steps, .. }) => {
+                Some(self.number_of::<B>(setting, leaf, steps))
+            }
             _ => None,
         }
     }

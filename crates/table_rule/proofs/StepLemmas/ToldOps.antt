@@ -14,7 +14,8 @@ use Rattle.core_model.specs.declared.task.Task.TheVariants.{Started}
 use Rattle.core_model.specs.State.{CoreJob, State}
 use Rattle.core_model.specs.Events.{value_in}
 use Rattle.core_model.specs.LeafSources.{HasSources}
-use Rattle.core_model.specs.Operations.{leaf_of, number_from, op_from, op_in, place_of, reply_at, value_from, value_under, IsCall}
+use Rattle.core_model.specs.Operations.{leaf_of, number_from, op_from, op_in, value_from, value_under, IsCall}
+use Rattle.core_model.proofs.BookLemmas.Operations.{reply_of}
 use Rattle.table_rule.specs.DueActs.{number_told, op_told}
 use Rattle.table_rule.specs.Shows.{IsTold}
 use Rattle.table_rule.proofs.StepLemmas.NextActs.{MayKeep, WorksOn}
@@ -39,11 +40,6 @@ told_op value told None own op is known = is
 told_op value None (Some r) own op is known = absurd (cc)
 told_op value (Some v) (Some r) own op is known = rw (known v r refl refl) is
 
--- a source that calls has the value of its reply
-reply_of : (job : CoreJob) (book : List (List Entry)) (r v : ℕ) (act : Act) → job.act r ≡ act → op_in act ≢ None → value_under job book r ≡ Some v → reply_at (place_of book r) ≡ Some v
-reply_of job book r v (Work steps) at calls is = absurd (calls refl)
-reply_of job book r v (Call op) at calls is = sym (ap (λ (a : Act). value_from job.work book a (job.source r) r) at) ∙ is
-
 -- the number of a leaf of work is by what was told as it is under the book
 told_number : (job : CoreJob) (book : List (List Entry)) (told source : Maybe ℕ) (steps number : ℕ) → number_told steps source told ≡ Some number
     → ((v r : ℕ) → told ≡ Some v → source ≡ Some r → IsCall job r × (value_under job book r ≡ Some v)) → number_from book steps source ≡ Some number
@@ -51,7 +47,7 @@ told_number job book told None steps number is known = is
 told_number job book None (Some r) steps number is known = absurd (cc)
 told_number job book (Some v) (Some r) steps number is known =
     let at = known v r refl refl in
-    ap (option_map low_bits) (reply_of job book r v (job.act r) refl at.0 at.1) ∙ is
+    ap (option_map low_bits) (reply_of job book r v at.0 at.1) ∙ is
 
 -- so the value that is kept is the one that the leaf has
 pub told_keep : (job : CoreJob) (s : State) (told : Maybe ℕ) (task : Task) (call : CallState) (value : ℕ) → HasSources job → ((v : ℕ) → told ≡ Some v → IsTold job s task v)

@@ -13,3 +13,4 @@ pub mod Listing
 pub mod Kept
 pub mod Places
 pub mod Numbering
+pub mod Replies

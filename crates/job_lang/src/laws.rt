@@ -4,6 +4,7 @@ ghost use Rattle.std.specs.List.{AllByRecursion};
 ghost use Rattle.seq_objects.specs.Objects.{argument_of};
 ghost use Rattle.sp_order.specs.Jobs.{JobValue, IsJob};
 ghost use Rattle.sp_order.specs.Objects.{with_numbers};
+ghost use Rattle.sp_order.specs.Sources.{TakeReplies};
 ghost use Rattle.sp_order.specs.Totals.{count_of_act};
 ghost use Rattle.job_lang.specs.Meaning.{objects_in};
 ghost use Rattle.job_lang.specs.Objects.{object_called, numbers_of};
@@ -30,6 +31,11 @@ pub fn texts_have_one_job_or_fault()
 /// its objects have the numbers and names of a job.
 pub fn accepted_jobs_are_jobs()
     ensures { (text : List ℕ) (job : JobValue) → IsJobOf text job → IsJob job }
+{}
+
+/// The leaves of the job of an accepted text take replies alone: a leaf with a source calls, and so does the source.
+pub fn accepted_jobs_take_replies()
+    ensures { (text : List ℕ) (job : JobValue) → IsJobOf text job → TakeReplies job.acts job.sources }
 {}
 
 /// The leaves of an accepted text that use a name are those that have a source.

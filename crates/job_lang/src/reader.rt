@@ -2,6 +2,7 @@
 ghost use Rattle.std.specs.Prelude.{◌≡◌, ◌≤◌, ◌⊎◌, Ok, Err, IfOk, length};
 ghost use Rattle.limits.specs.declared.TheConstants.{MOST_JOB_BYTES};
 ghost use Rattle.sp_order.specs.Jobs.{JobValue};
+ghost use Rattle.sp_order.specs.Sources.{TakeReplies};
 ghost use Rattle.job_lang.specs.Language.{IsJobOf, IsFaultOf};
 ghost use Rattle.job_syntax.specs.declared.fault.JobFault.{JobFault};
 ghost use Rattle.job_syntax.specs.declared.error.JobErr.TheVariants.{Bad, Memory};
@@ -33,10 +34,12 @@ fn read(alloc: Global, text: &[u8]) -> Result<Job, JobErr>
     Ok(job)
 }
 
-/// The job of a text, or its fault. Where memory runs out, and only there, the answer is `Memory`.
+/// The job of a text, whose leaves take replies alone, or its fault. Where memory runs out, and only there, the answer is
+/// `Memory`.
 pub fn read_job(alloc: Global, text: &[u8]) -> Result<Job, JobErr>
     requires { length text.now ≤ MOST_JOB_BYTES }
     ensures job { IfOk result (λ job. IsJobOf text.now job) }
+    ensures replies { IfOk result (λ job. TakeReplies job.acts job.sources) }
     ensures fault { (fault : JobFault) → result ≡ Err (Bad fault) → IsFaultOf text.now fault }
     ensures accepts { (job : JobValue) → IsJobOf text.now job → (result ≡ Ok job) ⊎ (result ≡ Err Memory) }
     ensures refuses { (fault : JobFault) → IsFaultOf text.now fault

@@ -9,7 +9,7 @@ use Rattle.seq_objects.specs.Verbs.{takes_argument}
 use Rattle.seq_objects.specs.Parts.{op_of, argument_of, has_argument}
 use Rattle.seq_objects.proofs.Parts.{argument_given, takes_given}
 use Rattle.sp_order.specs.Precedence.{Tree, leaf, seq, IsBefore}
-use Rattle.sp_order.specs.Sources.{IsSource, AreSources}
+use Rattle.sp_order.specs.Sources.{IsCallLeaf, IsSource, AreSources, TakeReplies}
 use Rattle.job_names.specs.declared.name.Name.{Name}
 use Rattle.job_names.specs.Names.{same_name}
 use Rattle.job_syntax.specs.declared.lexer.word.Word.TheVariants.{Named}
@@ -339,18 +339,36 @@ before_of : (shape : Option Tree) (u v : ℕ) → IsBeforeOpt 0 shape u v → Is
 before_of None u v h = elim h [ ]
 before_of (Some tree) u v h = (h, (before_is_smaller tree 0 u v h).1.0)
 
+-- A leaf that has a source calls with an argument that stands as 0, and the source is a call before it.
+record IsTaken (shape : Option Tree) (acts : List Act) (v u : ℕ) : Type 0 where
+  taking : (op : Op) × ((slice_get acts v ≡ Some (Call op)) × ((has_argument op ≡ true) × (argument_of op ≡ 0)))
+  called : IsCallLeaf acts u
+  before : IsBefore shape u v
+
+source_taken : (items : Items) (v u : ℕ) → AreFlat items → slice_get (sources_in true [] 0 items) v ≡ Some (Some u) → IsTaken (join_of seq (shapes_in 0 items)) (acts_in 0 items) v u
+source_taken items v u are e =
+    let number : 0 + v ≡ v = omega arith in
+    let here : IsSourceIn 0 (sources_in true [] 0 items) v u = subst (λ n. IsSourceIn 0 (sources_in true [] 0 items) n u) number (get_source (sources_in true [] 0 items) 0 v u e) in
+    elim (sourced items true [] 0 0 u v are here) [
+      | inl k ↦ elim k [ ]
+      | inr f ↦ record {
+        taking = get_taking (acts_in 0 items) v (taken items true [] 0 0 u v are here);
+        called = get_call (acts_in 0 items) u f.1;
+        before = (before_of (join_of seq (shapes_in 0 items)) u v (joined_of true (shapes_in 0 items) 0 u v f.0)).0;
+      }
+    ]
+
 -- Each source of a leaf is one that the leaf may have.
 pub sources_are_before : (items : Items) (v u : ℕ) → AreFlat items → slice_get (sources_in true [] 0 items) v ≡ Some (Some u) → IsSource (join_of seq (shapes_in 0 items)) (acts_in 0 items) v u
 sources_are_before items v u are e =
-    let number : 0 + v ≡ v = omega arith in
-    let here : IsSourceIn 0 (sources_in true [] 0 items) v u = subst (λ n. IsSourceIn 0 (sources_in true [] 0 items) n u) number (get_source (sources_in true [] 0 items) 0 v u e) in
-    let uses = get_taking (acts_in 0 items) v (taken items true [] 0 0 u v are here) in
-    elim (sourced items true [] 0 0 u v are here) [
-      | inl k ↦ elim k [ ]
-      | inr f ↦
-          let r = before_of (join_of seq (shapes_in 0 items)) u v (joined_of true (shapes_in 0 items) 0 u v f.0) in
-          record { op = uses.0; call = uses.1.0; argument = uses.1.1.0; stands_as_zero = uses.1.1.1; calls = get_call (acts_in 0 items) u f.1; before = r.0 }
-    ]
+    let is = source_taken items v u are e in
+    record { act = Call is.taking.0; is = is.taking.1.0; from = Call is.called.0; stands = is.called.1; takes = is.taking.1.1; before = is.before }
+
+-- Leaves take replies alone.
+pub items_take_replies : (items : Items) → grammar.AreItems false items → TakeReplies (acts_in 0 items) (sources_in true [] 0 items)
+items_take_replies items fits v u e =
+    let is = source_taken items v u (flat_items false items fits) e in
+    ((is.taking.0, is.taking.1.0), is.called)
 
 pub items_have_sources : (items : Items) → grammar.AreItems false items → AreSources (join_of seq (shapes_in 0 items)) (acts_in 0 items) (sources_in true [] 0 items)
 items_have_sources items fits = record {

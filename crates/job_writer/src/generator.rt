@@ -4,6 +4,7 @@ ghost use Rattle.std.specs.List.{AllByRecursion};
 ghost use Rattle.limits.specs.declared.TheConstants.{MOST_GENERATED};
 ghost use Rattle.seq_objects.specs.Objects.{number_of};
 ghost use Rattle.sp_order.specs.Precedence.{tree_of, leaf_count};
+ghost use Rattle.sp_order.specs.Sources.{TakeReplies};
 ghost use Rattle.job_writer.specs.Code.Draws.{HaveSmallKeys};
 ghost use Rattle.job_lang.specs.Orders.{join_by};
 ghost use Rattle.job_writer.specs.Generator.{next_number, op_drawn, growing_ops, finds_for, pops_for, takes_for, calls, part, all_ops, all_parts, job_growing_by, generated};
@@ -154,6 +155,7 @@ pub fn generate(alloc: Global, seed: u64, size: u32) -> Result<Job, AllocError>
     requires most { size ≤ MOST_GENERATED }
     ensures job { IfOk result (λ job. job ≡ generated seed size) }
     ensures leaves { IfOk result (λ job. leaf_count job.shape ≤ 2 * size + 2) }
+    ensures replies { IfOk result (λ job. TakeReplies job.acts job.sources) }
 {
     let ops = growing_ops(alloc, seed, size)?;
     job_growing_by(alloc, &ops)

@@ -11,6 +11,7 @@ ghost use Rattle.sp_order.specs.Depth.{depth_of};
 ghost use Rattle.sp_order.specs.Precedence.{leaf, leaf_count};
 ghost use Rattle.sp_order.specs.Objects.{with_number, name_of_number};
 ghost use Rattle.sp_order.specs.Phases.{FillsFirst};
+ghost use Rattle.sp_order.specs.Sources.{TakeReplies};
 ghost use Rattle.sp_order.specs.Totals.{count_of_act};
 ghost use Rattle.job_writer.specs.Canonical.{canonical_text};
 ghost use Rattle.job_writer.specs.Generator.{generated};
@@ -37,9 +38,10 @@ pub fn generated_jobs_have_few_leaves()
 {}
 
 /// The canonical text of a generated job of size at most 5,000 is a text of this job, with less than 700,000 bytes. The
-/// job is at most 15 deep, so the writer accepts it.
+/// job is at most 15 deep, and none of its leaves has a source, so the writer accepts it.
 pub fn generated_jobs_have_texts()
     ensures depth { (seed size : ℕ) → size ≤ MOST_GENERATED → depth_of (generated seed size).shape ≤ 15 }
+    ensures replies { (seed size : ℕ) → TakeReplies (generated seed size).acts (generated seed size).sources }
     ensures short { (seed size : ℕ) → size ≤ MOST_GENERATED → length (canonical_text (generated seed size)) < 700000 }
     ensures text { (seed size : ℕ) → size ≤ MOST_GENERATED
         → IsJobOf (canonical_text (generated seed size)) (generated seed size) }

@@ -5,6 +5,7 @@ ghost use Rattle.sp_order.specs.Precedence.{tree_of, leaves};
 ghost use Rattle.sp_order.specs.Depth.{depth_of};
 ghost use Rattle.sp_order.specs.Jobs.{IsJob};
 ghost use Rattle.sp_order.specs.Phases.{HasNoSources};
+ghost use Rattle.sp_order.specs.Sources.{TakeReplies};
 ghost use Rattle.job_lang.specs.ActNumbers.{op_number, act_number, IsSmall};
 ghost use Rattle.job_writer.specs.Code.Smalls.{IsSmallLeaf, AreSmallLeaves};
 ghost use Rattle.job_lang.specs.Language.{IsJobOf};
@@ -157,9 +158,11 @@ fn push_job(alloc: Global, text: &mut String, job: &Job) -> Result<(), AllocErro
     }
 }
 
-/// The canonical text of a job: on one line, with two items in every block. The reader gives the job back.
+/// The canonical text of a job whose leaves take replies alone, as those of all jobs of the language do: on one line,
+/// with two items in every block. The reader gives the job back.
 pub fn write_job(alloc: Global, job: &Job) -> Result<Vec<u8>, AllocError>
-    requires { depth_of job.now.shape ≤ MOST_OPEN_BLOCKS }
+    requires depth { depth_of job.now.shape ≤ MOST_OPEN_BLOCKS }
+    requires replies { TakeReplies job.now.acts job.now.sources }
     ensures text { IfOk result (λ text. text.items ≡ canonical_text job.now) }
     ensures short { job.now.names ≡ [] → IfOk result (λ text. length text.items < 1000000) }
     ensures plain { job.now.names ≡ [] → HasNoSources job.now → IfOk result (λ text. length text.items < 700000) }

@@ -9,12 +9,13 @@ use Rattle.seq_objects.specs.Objects.{argument_of}
 use Rattle.sp_order.specs.Precedence.{Tree, leaf, seq, par, leaf_count}
 use Rattle.sp_order.specs.Depth.{tree_depth, depth_of}
 use Rattle.sp_order.specs.Jobs.{IsJob}
+use Rattle.sp_order.specs.Sources.{TakeReplies}
 use Rattle.job_lang.specs.ActNumbers.{op_number, act_number, IsSmall, AreSmall}
 use Rattle.job_writer.specs.Canonical.{written_leaves, canonical_text}
 use Rattle.job_lang.specs.Joins.{half, both, join_within, join_of}
 use Rattle.job_lang.specs.Language.{IsJobOf}
 use Rattle.job_writer.specs.Generator.{growing_ops, finds_for, calls, pops_for, takes_for, part, all_ops, all_parts, job_growing_by, generated}
-use Rattle.job_writer.proofs.GeneratorLemmas.Sources.{none_are_sources, none_each}
+use Rattle.job_writer.proofs.GeneratorLemmas.Sources.{none_are_sources, none_each, none_take_replies}
 use Rattle.job_writer.specs.Code.Smalls.{AreSmallLeaves}
 use Rattle.job_writer.proofs.GeneratorLemmas.Counts.{answers, length_pops, length_takes, length_acts, later_some, few_acts, leaves_are_acts}
 use Rattle.job_writer.proofs.GeneratorLemmas.Draws.{Grows, all_grow, length_growing, first_growing}
@@ -126,6 +127,9 @@ generated_small seed size few =
 pub generated_short : (seed size : ℕ) → size ≤ 5000 → length (canonical_text (generated seed size)) < 700000
 generated_short seed size few = plain_is_short (generated seed size) (generated_is_job seed size few) (generated_small seed size few) refl (none_each (length (generated seed size).acts))
 
+pub generated_replies : (seed size : ℕ) → TakeReplies (generated seed size).acts (generated seed size).sources
+generated_replies seed size = none_take_replies (generated seed size).acts
+
 pub generated_text : (seed size : ℕ) → size ≤ 5000 → IsJobOf (canonical_text (generated seed size)) (generated seed size)
 generated_text seed size few =
-    canonical_is_job (generated seed size) (generated_is_job seed size few) (omega (arith, generated_depth seed size few)) (generated_small seed size few)
+    canonical_is_job (generated seed size) (generated_is_job seed size few) (generated_replies seed size) (omega (arith, generated_depth seed size few)) (generated_small seed size few)

@@ -22,7 +22,7 @@ use Rattle.job_lang.specs.ActNumbers.{op_number, IsSmall, AreSmall}
 use Rattle.job_writer.specs.Code.Smalls.{IsSmallLeaf, AreSmallLeaves}
 use Rattle.job_lang.specs.Meaning.{sources_in}
 use Rattle.sp_order.specs.Precedence.{IsBeforeFrom}
-use Rattle.sp_order.specs.Sources.{AreSources}
+use Rattle.sp_order.specs.Sources.{AreSources, MayTake, TakeReplies}
 use Rattle.sp_order.specs.Phases.{HasNoSources}
 use Rattle.std.specs.List.{AllByRecursion}
 use Rattle.job_syntax.specs.Code.Shown.{AreShown}
@@ -71,21 +71,25 @@ grown_is_job names grown blanks few deep good well named sources shown plain end
       means = job_again names grown well sources named;
     }
 
--- what the sources of a job say of its leaves as they are written
+-- what the sources of a job whose leaves take replies alone say of its leaves as they are written
 
 module _ (tree : Tree) (acts : List Act) (sources : List (Option ℕ)) (are : AreSources (Some tree) acts sources) where
   same_act : (a b : Act) (i : ℕ) → slice_get acts i ≡ Some a → slice_get acts i ≡ Some b → a ≡ b
   same_act a b i e f = cc
 
-  are_well : AreWell (written_from sources 0 acts sources)
-  are_well = each_from IsWell sources 0 acts sources
+  are_well : TakeReplies acts sources → AreWell (written_from sources 0 acts sources)
+  are_well take = each_from IsWell sources 0 acts sources
       (λ n i act source place e f. record {
-        stands = λ u is_u. let is = are.each i u (f ∙ ap (λ s. Some s) is_u) in (is.op, (same_act act (Call is.op) i e is.call, (is.argument, is.stands_as_zero)));
+        stands = λ u is_u.
+            let at = f ∙ ap (λ s. Some s) is_u in
+            let is = are.each i u at in
+            let call = (take i u at).0 in
+            (call.0, (same_act act (Call call.0) i e call.1, subst (λ (taking : Act). MayTake taking is.from) (same_act is.act (Call call.0) i is.is call.1) is.takes));
         calls = λ named.
             let number : n ≡ i = omega (arith, place) in
             let found = found_source sources i (subst (λ n. is_source sources n ≡ true) number named) in
-            let is = are.each found.0 i found.1 in
-            (is.calls.0, same_act act (Call is.calls.0) i e is.calls.1);
+            let call = (take found.0 i found.1).1 in
+            (call.0, same_act act (Call call.0) i e call.1);
       })
 
   are_found : AllByRecursion (IsFound sources tree 0 (λ u. ⊥)) (written_from sources 0 acts sources)
@@ -135,9 +139,9 @@ tree_is_job names all tree written same =
     subst (λ text. IsJobOf (text ++ codes "\n") (record { shape = Some (shape_of grown.0); acts = acts_of (leaves_of grown.0); sources = sources_of (leaves_of grown.0); names = names })) (sym (text_is names grown.0))
     (grown_is_job names grown.0 (codes "\n") few deep (each_grown _ grown.0 good) (each_grown _ grown.0 well) named (sources_now names grown.0 all row found well few) (shown_now names grown.0 all row found) refl refl refl))
 
-shape_is_job : (shape : Option Tree) (acts : List Act) (sources : List (Option ℕ)) (names : List (List ℕ)) → leaf_count shape ≡ length acts → length acts ≤ 20000 → AreSources shape acts sources → AreNamed acts names → depth_of shape ≤ 32 → AreSmallLeaves (written_from sources 0 acts sources)
+shape_is_job : (shape : Option Tree) (acts : List Act) (sources : List (Option ℕ)) (names : List (List ℕ)) → leaf_count shape ≡ length acts → length acts ≤ 20000 → AreSources shape acts sources → TakeReplies acts sources → AreNamed acts names → depth_of shape ≤ 32 → AreSmallLeaves (written_from sources 0 acts sources)
     → IsJobOf (shape_text names shape (written_from sources 0 acts sources)) (record { shape = shape; acts = acts; sources = sources; names = names })
-shape_is_job None [] [] names same few are named deep small =
+shape_is_job None [] [] names same few are take named deep small =
     let none = no_names 0 names named.numbers in
     record {
       allowed = refl;
@@ -147,9 +151,9 @@ shape_is_job None [] [] names same few are named deep small =
       small = refl;
       means = λ i. record { shape = None; acts = []; sources = []; names = none i };
     }
-shape_is_job None [] (source ∷ sources) names same few are named deep small = let e = are.as_many in absurd (omega (arith, e))
-shape_is_job None (act ∷ acts) sources names same few are named deep small = absurd (omega (arith, same))
-shape_is_job (Some tree) acts sources names same few are named deep small =
+shape_is_job None [] (source ∷ sources) names same few are take named deep small = let e = are.as_many in absurd (omega (arith, e))
+shape_is_job None (act ∷ acts) sources names same few are take named deep small = absurd (omega (arith, same))
+shape_is_job (Some tree) acts sources names same few are take named deep small =
     let written = written_from sources 0 acts sources in
     let count = length_from sources 0 acts sources are.as_many in
     let acts_are = acts_from sources 0 acts sources are.as_many in
@@ -157,10 +161,10 @@ shape_is_job (Some tree) acts sources names same few are named deep small =
     let named_now : AreNamed (acts_of written) names = subst (λ a. AreNamed a names) (sym acts_are) named in
     let good = said_leaves names written named.spelled (most_used (acts_of written) 0 (length names) named_now.numbers).1 small in
     subst (λ (job : List Act × List (Option ℕ)). IsJobOf (tree_text names tree written ++ codes "\n") (record { shape = Some tree; acts = job.0; sources = job.1; names = names })) (λ i. (acts_are i, sources_are i))
-    (tree_is_job names sources tree written (count ∙ sym same) (omega (arith, same, few)) deep good (are_well tree acts sources are) named_now (at_from sources 0 acts sources) (are_found tree acts sources are))
+    (tree_is_job names sources tree written (count ∙ sym same) (omega (arith, same, few)) deep good (are_well tree acts sources are take) named_now (at_from sources 0 acts sources) (are_found tree acts sources are))
 
-pub canonical_is_job : (job : JobValue) → IsJob job → depth_of job.shape ≤ 32 → AreSmallLeaves (written_leaves job) → IsJobOf (canonical_text job) job
-canonical_is_job job is_job deep small = shape_is_job job.shape job.acts job.sources job.names is_job.leaves is_job.most is_job.sources is_job.objects deep small
+pub canonical_is_job : (job : JobValue) → IsJob job → TakeReplies job.acts job.sources → depth_of job.shape ≤ 32 → AreSmallLeaves (written_leaves job) → IsJobOf (canonical_text job) job
+canonical_is_job job is_job take deep small = shape_is_job job.shape job.acts job.sources job.names is_job.leaves is_job.most is_job.sources take is_job.objects deep small
 
 shape_is_short : (shape : Option Tree) (written : List WrittenLeaf) → leaf_count shape ≡ length written → length written ≤ 20000 → AreSmallLeaves written → AllByRecursion IsFew written → length (shape_text [] shape written) < 1000000
 shape_is_short None written same few small numbers = omega arith

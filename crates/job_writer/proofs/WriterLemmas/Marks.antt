@@ -2,7 +2,6 @@
 use Rattle.std.proofs.Common.{◌≡◌, ℕ, zero, suc, ◌+◌, ◌<◌, List, [], ◌∷◌, ◌++◌, length, take, Result, Ok, Err, Option, Some, None, sym, ap, ◌∙◌, arith}
 use Rattle.std.specs.Prelude.{◌||◌, slice_get, IfSome, OnOk}
 use Rattle.seq_objects.specs.declared.act.Act.{Act}
-use Rattle.seq_objects.specs.declared.act.Act.TheVariants.{Call}
 use Rattle.sp_order.specs.Precedence.{Tree}
 use Rattle.sp_order.specs.Sources.{AreSources}
 use Rattle.job_writer.specs.Canonical.{WrittenLeaf, is_leaf, is_source, written_from}
@@ -24,7 +23,7 @@ source_more sources i leaf source e =
 -- a job's source is one of its leaves
 pub source_below : (shape : Option Tree) (acts : List Act) (sources : List (Option ℕ)) (leaf : ℕ) (r : Option ℕ) → AreSources shape acts sources → slice_get sources leaf ≡ Some r → IfSome r (λ source. source < length acts)
 source_below shape acts sources leaf None are e = tt
-source_below shape acts sources leaf (Some source) are e = let calls = (are.each leaf source e).calls in slice_get_within acts source (Call calls.0) calls.1
+source_below shape acts sources leaf (Some source) are e = let is = are.each leaf source e in slice_get_within acts source is.from is.stands
 
 -- the leaves before a place, and one more
 written_more_at : (all : List (Option ℕ)) (number : ℕ) (acts : List Act) (sources : List (Option ℕ)) (i at : ℕ) (act : Act) (source : Option ℕ) → at ≡ number + i → slice_get acts i ≡ Some act → slice_get sources i ≡ Some source

@@ -17,4 +17,4 @@ returns-clause-plain c = λ nameless none.
 pub returns-clause-reads_back : goal.returns-clause-reads_back
 returns-clause-reads_back c =
     let text : c.into_bytes.result.items ≡ canonical_text c.args.job.now = search rules in
-    subst (λ t. IsJobOf t c.args.job.now) (sym text) (canonical_is_job c.args.job.now c.in_ok-push_job.ensures.job c.requires c.in_ok-push_job.ensures.small)
+    subst (λ t. IsJobOf t c.args.job.now) (sym text) (canonical_is_job c.args.job.now c.in_ok-push_job.ensures.job c.requires.replies c.requires.depth c.in_ok-push_job.ensures.small)

@@ -9,7 +9,7 @@ use Rattle.std.proofs.lemmas.Option.{slice_get_within}
 use Rattle.job_names.specs.declared.name.Name.{Name}
 use Rattle.job_names.specs.Names.{spelling}
 use Rattle.seq_objects.specs.declared.act.Act.{Act}
-use Rattle.seq_objects.specs.declared.act.Act.TheVariants.{Work, Call}
+use Rattle.seq_objects.specs.declared.act.Act.TheVariants.{Work}
 use Rattle.sp_order.specs.Jobs.{JobValue, IsJob}
 use Rattle.sp_order.specs.Objects.{number_in}
 use Rattle.sp_order.proofs.ObjectLemmas.{most_used}
@@ -56,7 +56,7 @@ number_within job names leaf d is_job same within =
 source_of_leaf : (job : JobValue) (leaf : ℕ) (source : Option ℕ) → IsJob job → slice_get job.sources leaf ≡ Some source → IfSome source (λ s. s < length job.acts)
 source_of_leaf job leaf None is_job at = tt
 source_of_leaf job leaf (Some source) is_job at =
-    let calls = (is_job.sources.each leaf source at).calls in slice_get_within job.acts source (Call calls.0) calls.1
+    let is = is_job.sources.each leaf source at in slice_get_within job.acts source is.from is.stands
 
 below_count : (source : Option ℕ) (n m : ℕ) → n ≡ m → IfSome source (λ s. s < n) → IfSome source (λ s. s < m)
 below_count None n m same below = tt

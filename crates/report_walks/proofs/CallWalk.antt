@@ -8,20 +8,22 @@ use Rattle.std.proofs.lemmas.List.{get_or-set_other, get_or-set_same, length-set
 use Rattle.std.proofs.lemmas.Option.{slice_get_within}
 use Rattle.seq_objects.specs.Objects.{value_of}
 use Rattle.seq_objects.specs.Pairs.{AreDistinct, IsEnumerationOf}
+use Rattle.seq_objects.specs.Spin.{spin_of}
 use Rattle.seq_objects.specs.declared.act.Act.{Act}
 use Rattle.seq_objects.specs.declared.act.Act.TheVariants.{Work, Call}
 use Rattle.seq_objects.specs.declared.op.Op.{Op}
 use Rattle.seq_objects.proofs.Elements.{each_so, each_both}
 use Rattle.sp_order.specs.Jobs.{JobValue}
-use Rattle.sp_order.specs.Sources.{IsCallLeaf, with_value}
+use Rattle.sp_order.specs.Sources.{IsCallLeaf, TakeReplies, with_value}
 use Rattle.batch_history.specs.Book.{flat}
 use Rattle.batch_history.specs.Lawful.{HasCalls}
-use Rattle.batch_history.specs.Operations.{act_of, op_in, source_of, op_with, op_from, op_of}
+use Rattle.batch_history.specs.Operations.{act_of, op_in, source_of, reply_at, value_under, op_with, op_from, op_of}
 use Rattle.batch_history.specs.Places.{place_in, or_else, place_from, place_of}
 use Rattle.batch_history.specs.declared.batch.Entry.{Entry}
 use Rattle.batch_history.specs.declared.place.Place.{Place}
 use Rattle.batch_history.specs.declared.row.Row.{Row}
 use Rattle.report_walks.specs.Parts.{of_calls}
+use Rattle.report_walks.proofs.TakenReplies.{source_value}
 use Rattle.report_walks.specs.Code.Calls.{noted, all_noted, CanNoteAll, value_in, HaveValues, op_valued, op_by, IsServed, AreValuesOf}
 
 abbrev pub leaves_in : List Entry → List ℕ
@@ -183,12 +185,7 @@ module _ (acts : List Act) (entries : List Entry) where
   have_of_once values is once leaf calls none =
       contained_value entries leaf (once.each leaf calls) (sym (ap (λ (vs : List (Option ℕ)). get_or vs leaf None) is ∙ value_at (can_of_once once) leaf) ∙ none)
 
--- the value of the reply at a place
-abbrev value_of_place : Option Place → Option ℕ
-value_of_place None = None
-value_of_place (Some place) = Some (value_of place.entry.reply)
-
-value_in_batch : (k i : ℕ) (entries : List Entry) (leaf : ℕ) → value_of_place (place_in k i entries leaf) ≡ value_in entries leaf
+value_in_batch : (k i : ℕ) (entries : List Entry) (leaf : ℕ) → reply_at (place_in k i entries leaf) ≡ value_in entries leaf
 value_in_batch k i [] leaf = refl
 value_in_batch k i (entry ∷ entries) leaf = elim (cases_eq entry.leaf leaf) [
   | inl same ↦ rw (eq-eqb entry.leaf leaf same) refl
@@ -202,36 +199,36 @@ value_append (x ∷ xs) ys leaf = elim (cases_eq x.leaf leaf) [
   | inr other ↦ value_later x (xs ++ ys) leaf other ∙ value_append xs ys leaf ∙ ap (λ o. or_old o (value_in ys leaf)) (sym (value_later x xs leaf other))
 ]
 
-value_or_else : (p q : Option Place) → value_of_place (or_else p q) ≡ or_old (value_of_place p) (value_of_place q)
+value_or_else : (p q : Option Place) → reply_at (or_else p q) ≡ or_old (reply_at p) (reply_at q)
 value_or_else None q = refl
 value_or_else (Some p) q = refl
 
-value_from : (k : ℕ) (book : List (List Entry)) (leaf : ℕ) → value_of_place (place_from k book leaf) ≡ value_in (flat book) leaf
-value_from k [] leaf = refl
-value_from k (batch ∷ book) leaf =
+value_placed_from : (k : ℕ) (book : List (List Entry)) (leaf : ℕ) → reply_at (place_from k book leaf) ≡ value_in (flat book) leaf
+value_placed_from k [] leaf = refl
+value_placed_from k (batch ∷ book) leaf =
     value_or_else (place_in k 0 batch leaf) (place_from (k + 1) book leaf)
-    ∙ ap (λ o. or_old o (value_of_place (place_from (k + 1) book leaf))) (value_in_batch k 0 batch leaf)
-    ∙ ap (or_old (value_in batch leaf)) (value_from (k + 1) book leaf)
+    ∙ ap (λ o. or_old o (reply_at (place_from (k + 1) book leaf))) (value_in_batch k 0 batch leaf)
+    ∙ ap (or_old (value_in batch leaf)) (value_placed_from (k + 1) book leaf)
     ∙ sym (value_append batch (flat book) leaf)
 
-value_placed : (book : List (List Entry)) (leaf : ℕ) → value_of_place (place_of book leaf) ≡ value_in (flat book) leaf
+value_placed : (book : List (List Entry)) (leaf : ℕ) → reply_at (place_of book leaf) ≡ value_in (flat book) leaf
 unfolding place_of
-value_placed book leaf = value_from 0 book leaf
+value_placed book leaf = value_placed_from 0 book leaf
 
-op_with_value : (op : Op) (p : Option Place) → option_map (with_value op) (value_of_place p) ≡ op_with (Some op) p
+op_with_value : (op : Op) (value : Option ℕ) → option_map (with_value op) value ≡ op_with (Some op) value
 op_with_value op None = refl
-op_with_value op (Some p) = refl
+op_with_value op (Some value) = refl
 
--- an operation by the values is that under the book
-op_same : (book : List (List Entry)) (values : List (Option ℕ)) → ((leaf : ℕ) → get_or values leaf None ≡ value_in (flat book) leaf)
-    → (op : Option Op) (source : Option ℕ) → op_valued op source values ≡ op_from book op source
-op_same book values at op None = refl
-op_same book values at None (Some source) = refl
-op_same book values at (Some op) (Some source) =
-    ap (option_map (with_value op)) (at source ∙ sym (value_placed book source)) ∙ op_with_value op (place_of book source)
+-- an operation by the values is that under the book, where the value of its source is that of the reply
+op_same : (job : JobValue) (book : List (List Entry)) (values : List (Option ℕ)) → ((leaf : ℕ) → get_or values leaf None ≡ value_in (flat book) leaf)
+    → (op : Option Op) (source : Option ℕ) → ((s : ℕ) → source ≡ Some s → value_under spin_of job book s ≡ reply_at (place_of book s)) → op_valued op source values ≡ op_from (value_under spin_of job book) op source
+op_same job book values at op None replies = refl
+op_same job book values at None (Some source) replies = refl
+op_same job book values at (Some op) (Some source) replies =
+    ap (option_map (with_value op)) (at source ∙ sym (value_placed book source)) ∙ op_with_value op (reply_at (place_of book source)) ∙ ap (op_with (Some op)) (sym (replies source refl))
 
-pub op_by_values : (job : JobValue) (book : List (List Entry)) (values : List (Option ℕ)) → AreValuesOf job.acts (flat book) values → (leaf : ℕ) → op_by job values leaf ≡ op_of job book leaf
-op_by_values job book values are leaf = op_same book values are.each (op_in (act_of job.acts leaf)) (source_of job leaf)
+pub op_by_values : (job : JobValue) (book : List (List Entry)) (values : List (Option ℕ)) → TakeReplies job.acts job.sources → AreValuesOf job.acts (flat book) values → (leaf : ℕ) → op_by job values leaf ≡ op_of spin_of job book leaf
+op_by_values job book values take are leaf = op_same job book values are.each (op_in (act_of job.acts leaf)) (source_of job leaf) (λ source is. source_value job take spin_of book leaf source is)
 
 -- what holds of what each element is mapped to
 pub each_of_mapped : (P : ℕ → Type 0) (entries : List Entry) → AllByRecursion P (leaves_in entries) → AllByRecursion (λ (entry : Entry). P entry.leaf) entries
@@ -242,18 +239,18 @@ pub leaves_within : (acts : List Act) (entries : List Entry) → IsEnumerationOf
 leaves_within acts entries once = each_so (λ (entry : Entry). IsCallLeaf acts entry.leaf) (λ (entry : Entry). entry.leaf < length acts) (λ entry calls. call_within acts entry.leaf calls) entries (each_of_mapped (IsCallLeaf acts) entries once.only)
 
 -- the calls of a report are those of a job exactly where all its entries are served
-module _ (job : JobValue) (book : List (List Entry)) (rows : List Row) (values : List (Option ℕ)) (are : AreValuesOf job.acts (flat book) values) where
+module _ (job : JobValue) (book : List (List Entry)) (rows : List Row) (values : List (Option ℕ)) (take : TakeReplies job.acts job.sources) (are : AreValuesOf job.acts (flat book) values) where
   pub calls_of_served : AllByRecursion (IsServed job values rows) (flat book) → HasCalls job (of_calls book rows)
   calls_of_served served = record {
     leaves = are.once;
-    operations = each_so (IsServed job values rows) (λ (entry : Entry). op_of job book entry.leaf ≡ Some entry.op) (λ entry is. sym (op_by_values job book values are entry.leaf) ∙ is.operation) (flat book) served;
+    operations = each_so (IsServed job values rows) (λ (entry : Entry). op_of spin_of job book entry.leaf ≡ Some entry.op) (λ entry is. sym (op_by_values job book values take are entry.leaf) ∙ is.operation) (flat book) served;
     workers = each_so (IsServed job values rows) (λ (entry : Entry). ForSome (slice_get rows entry.leaf) (λ row. row.worker ≡ entry.worker)) (λ entry is. is.worker) (flat book) served;
   }
 
   pub served_of_calls : HasCalls job (of_calls book rows) → AllByRecursion (IsServed job values rows) (flat book)
-  served_of_calls has = each_so (λ (entry : Entry). (op_of job book entry.leaf ≡ Some entry.op) × ForSome (slice_get rows entry.leaf) (λ row. row.worker ≡ entry.worker)) (IsServed job values rows)
-      (λ entry is. record { operation = op_by_values job book values are entry.leaf ∙ is.0; worker = is.1 }) (flat book)
-      (each_both (λ (entry : Entry). op_of job book entry.leaf ≡ Some entry.op) (λ (entry : Entry). ForSome (slice_get rows entry.leaf) (λ row. row.worker ≡ entry.worker)) (flat book) has.operations has.workers)
+  served_of_calls has = each_so (λ (entry : Entry). (op_of spin_of job book entry.leaf ≡ Some entry.op) × ForSome (slice_get rows entry.leaf) (λ row. row.worker ≡ entry.worker)) (IsServed job values rows)
+      (λ entry is. record { operation = op_by_values job book values take are entry.leaf ∙ is.0; worker = is.1 }) (flat book)
+      (each_both (λ (entry : Entry). op_of spin_of job book entry.leaf ≡ Some entry.op) (λ (entry : Entry). ForSome (slice_get rows entry.leaf) (λ row. row.worker ≡ entry.worker)) (flat book) has.operations has.workers)
 
 -- an operation that the code reads
 module _ (acts : List Act) (leaf : ℕ) (d : Act) (op : Op) (low : leaf < length acts) (is : get_or acts leaf d ≡ Call op) where

@@ -6,6 +6,7 @@ pub mod Walks
 pub mod RowWalk
 pub mod Timed
 pub mod Starts
+pub mod TakenReplies
 pub mod CallWalk
 pub mod BatchWalk
 pub mod ReplyWalk

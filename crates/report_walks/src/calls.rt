@@ -4,7 +4,7 @@ ghost use Rattle.std.specs.Prelude.{◌≡◌, ◌↔◌, ◌<◌, true, false, 
 ghost use Rattle.std.specs.List.{AllByRecursion};
 ghost use Rattle.seq_objects.specs.Pairs.{IsEnumerationOf};
 ghost use Rattle.sp_order.specs.Precedence.{leaf_count};
-ghost use Rattle.sp_order.specs.Sources.{IsCallLeaf};
+ghost use Rattle.sp_order.specs.Sources.{IsCallLeaf, TakeReplies};
 ghost use Rattle.batch_history.specs.Book.{flat};
 ghost use Rattle.batch_history.specs.Lawful.{HasCalls};
 ghost use Rattle.report_walks.specs.Parts.{of_calls};
@@ -141,11 +141,13 @@ fn values_of(
 }
 
 /// Whether the batches have each leaf that calls once, with its operation under the replies of these batches and with
-/// the worker of its row. A source may stand behind its use: then the ticks are not kept.
+/// the worker of its row. The leaves of the job take replies alone. A source may stand behind its use: then the ticks
+/// are not kept.
 ///
 /// Memory: linear in the leaves.
 pub fn has_calls(alloc: Global, job: &Job, book: &[Batch], rows: &[Row]) -> Result<bool, AllocError>
-    requires { length rows.now ≡ leaf_count job.now.shape }
+    requires rows { length rows.now ≡ leaf_count job.now.shape }
+    requires replies { TakeReplies job.now.acts job.now.sources }
     ensures { IfOk result (λ has. IsTrue has ↔ HasCalls job.now (of_calls book.now rows.now)) }
 {
     let Some(values) = values_of(alloc, job.acts(), book)? else {

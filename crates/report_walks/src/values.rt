@@ -5,6 +5,7 @@ ghost use Rattle.std.specs.List.{AllByRecursion};
 ghost use Rattle.seq_objects.specs.Spin.{spin_of};
 ghost use Rattle.seq_objects.specs.declared.act.Act.TheVariants.{Work};
 ghost use Rattle.sp_order.specs.Precedence.{leaf_count};
+ghost use Rattle.sp_order.specs.Sources.{TakeReplies};
 ghost use Rattle.batch_history.specs.Book.{flat};
 ghost use Rattle.batch_history.specs.Lawful.{HasValues};
 ghost use Rattle.report_walks.specs.Parts.{of_calls};
@@ -44,12 +45,14 @@ fn have_replies(rows: &[Row], entries: &[Entry]) -> bool
     true
 }
 
-/// Whether each leaf of work has the value of its work, and each one that calls that of its reply. Work of any number
-/// of steps takes 32 turns of a loop at most.
+/// Whether each leaf of work has the value of its work, and each one that calls that of its reply. The leaves of the job
+/// take replies alone, so that a leaf of work computes on its own number. Work of any number of steps takes 32 turns of
+/// a loop at most.
 ///
 /// Memory: none.
 pub fn has_values(job: &Job, book: &[Batch], rows: &[Row]) -> bool
     requires rows { length rows.now ≡ leaf_count job.now.shape }
+    requires replies { TakeReplies job.now.acts job.now.sources }
     requires leaves { AllByRecursion (λ entry. entry.leaf < length rows.now) (flat book.now) }
     ensures { IsTrue result ↔ HasValues job.now (of_calls book.now rows.now) }
 {

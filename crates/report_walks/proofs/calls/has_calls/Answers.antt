@@ -27,7 +27,7 @@ returns-then-not-are_served c =
     denied (HasCalls c.args.job.now (of_calls c.args.book.now c.args.rows.now)) (λ has.
     c.if-not-are_served.ensures.1 (subst (λ (vs : List (Option ℕ)). AllByRecursion (IsServed c.args.job.now vs c.args.rows.now) c.entries.result.now) (sym c.as_slice.ensures.value)
     (batch_each c.args.book.now c.loop-batch.batch-index c.batch-item.result c.entries.result.now c.loop-batch-test.true c.batch-item.is c.entries.ensures
-    (IsServed c.args.job.now c.in-Some.values.items c.args.rows.now) (served_of_calls c.args.job.now c.args.book.now c.args.rows.now c.in-Some.values.items are has))))
+    (IsServed c.args.job.now c.in-Some.values.items c.args.rows.now) (served_of_calls c.args.job.now c.args.book.now c.args.rows.now c.in-Some.values.items c.requires.replies are has))))
 
 pub loop-batch-preserved : goal.loop-batch-preserved
 loop-batch-preserved c =
@@ -39,5 +39,5 @@ pub returns : goal.returns
 returns c =
     let are = known c.acts.result.now c.args.job.now.acts (flat c.args.book.now) c.in_ok-values.field-0 c.in-Some.values c.acts.ensures.acts c.in-Some.is c.in_ok-values.ensures.some in
     holds (HasCalls c.args.job.now (of_calls c.args.book.now c.args.rows.now))
-    (calls_of_served c.args.job.now c.args.book.now c.args.rows.now c.in-Some.values.items are
+    (calls_of_served c.args.job.now c.args.book.now c.args.rows.now c.in-Some.values.items c.requires.replies are
     (batch_done (IsServed c.args.job.now c.in-Some.values.items c.args.rows.now) c.args.book.now c.loop-batch.batch-index c.loop-batch.invariant c.loop-batch-test.false))

@@ -1,15 +1,15 @@
 use Rattle.std.proofs.Common.{◌≡◌, Some, None, List, ap, subst, ◌∙◌, arith}
-use Rattle.std.proofs.lemmas.Option.{get_or_from_slice_get}
+use Rattle.std.proofs.lemmas.Option.{get_or_from_slice_get, slice_get_within}
 use Rattle.seq_objects.specs.declared.act.Act.{Act}
 use Rattle.seq_objects.specs.declared.act.Act.TheVariants.{Call}
 use Rattle.batch_history.specs.Operations.{act_of, source_of}
-use Rattle.report_walks.proofs.CallWalk.{call_within, op_plain, op_sourced}
+use Rattle.report_walks.proofs.CallWalk.{op_plain, op_sourced}
 use Rattle.report_walks.proofs.calls.op_of.Goals as goal
 
 pub bounds-values-source : goal.bounds-values-source
 bounds-values-source c =
-    let calls = (c.acts.ensures.job.sources.each c.args.leaf c.in-Some.source c.in-Some.ensures).calls in
-    omega (arith, call_within c.args.job.now.acts c.in-Some.source calls, c.requires.values)
+    let is = c.acts.ensures.job.sources.each c.args.leaf c.in-Some.source c.in-Some.ensures in
+    omega (arith, slice_get_within c.args.job.now.acts c.in-Some.source is.from is.stands, c.requires.values)
 
 pub returns-in_err-values-in-Some : goal.returns-in_err-values-in-Some
 returns-in_err-values-in-Some c =

@@ -1,1 +1,3 @@
+pub mod Elements
 pub mod SerialOrder
+pub mod Values

@@ -10,7 +10,7 @@ use Rattle.seq_objects.proofs.Elements.{each_at, each_mapped, each_so}
 use Rattle.sp_order.specs.Jobs.{JobValue}
 use Rattle.sp_order.specs.Sources.{IsCallLeaf}
 use Rattle.batch_history.specs.Book.{flat, IsBatch}
-use Rattle.batch_history.specs.Lawful.{HasCalls}
+use Rattle.batch_history.specs.Lawful.{HasCallsWith}
 use Rattle.batch_history.specs.Places.{place_of}
 use Rattle.batch_history.specs.declared.batch.Entry.{Entry}
 use Rattle.batch_history.specs.declared.report.Report.{Report}
@@ -35,7 +35,7 @@ few_batches (batch ∷ book) are =
 call_below : (acts : List Act) (leaf : ℕ) → IsCallLeaf acts leaf → leaf < length acts
 call_below acts leaf is = slice_get_within acts leaf (Call is.0) is.1
 
-module _ (job : JobValue) (report : Report) (calls : HasCalls job report) where
+module _ (meaning : ℕ → ℕ) (job : JobValue) (report : Report) (calls : HasCallsWith meaning job report) where
   abbrev callers : List ℕ
   callers = map (λ (entry : Entry). entry.leaf) (flat report.history)
 

@@ -1,11 +1,10 @@
 //! A job that was run, and its results.
-ghost use Rattle.std.specs.Prelude.{◌≡◌, ◌<◌, ℕ, Some, IfOk, slice_get};
+ghost use Rattle.std.specs.Prelude.{◌≡◌, ◌<◌, Some, IfOk};
 ghost use Rattle.batch_history.specs.Lawful.{LawfulWith};
 ghost use Rattle.batch_history.specs.Places.{place_of as place_in_book};
 ghost use Rattle.batch_history.specs.Text.{report_text};
 ghost use Rattle.job_results.specs.Results.{calls_of, value_in};
-ghost use Rattle.seq_objects.specs.declared.act.Act.TheVariants.{Work};
-ghost use Rattle.serial_runs.specs.SerialRuns.{IsReplyTo, IsSerialRun};
+ghost use Rattle.serial_runs.specs.SerialRuns.{HasValue, IsReplyTo, IsSerialRun};
 ghost use Rattle.sp_order.specs.Precedence.{leaf_count};
 ghost use Rattle.sp_order.specs.Sources.{IsCallLeaf};
 
@@ -80,18 +79,18 @@ impl<W: LeafWork> RanWith<W> {
 
     /// The calls are a serial run of the job's. It does nothing.
     pub fn is_serial(&self)
-        ensures { IsSerialRun self.now.job (calls_of self.now) }
+        ensures { IsSerialRun (W.meaning self.now.work) self.now.job (calls_of self.now) }
     {
         lawful_reports_with_work_are_serial();
         let _report = &self.report;
     }
 
-    /// The value of a leaf: that of its work, or of its reply.
+    /// The value of a leaf: what its work means, of its number or of what it takes of its source, or that of its reply.
     pub fn value_of(&self, handle: Handle) -> u64
         requires { handle.leaf < leaf_count self.now.job.shape }
         ensures value { value_in self.now.report handle.leaf ≡ Some result }
-        ensures work { (number : ℕ) → slice_get self.now.job.acts handle.leaf ≡ Some (Work number)
-            → result ≡ W.meaning self.now.work number }
+        ensures serial { HasValue (W.meaning self.now.work) self.now.job (calls_of self.now) handle.leaf
+            result }
     {
         self.report.rows.list()[handle.leaf() as usize].value
     }

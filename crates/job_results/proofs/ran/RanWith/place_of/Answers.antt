@@ -10,7 +10,7 @@ pub place_of-requires-clause-few_batches : goal.place_of-requires-clause-few_bat
 place_of-requires-clause-few_batches g c =
     let f = c.self.inside in
     let batches = few_batches f.report.history c.self.invariant.batches in
-    let calls = few_calls f.job f.report c.self.invariant.calls in
+    let calls = few_calls (g.W.LeafWork.meaning f.work.value) f.job f.report c.self.invariant.calls in
     let most = c.acts-acts.ensures.job.most in
     let same = ap length c.batches.ensures.batches in
     omega (arith, batches, calls, most, same)
@@ -18,7 +18,7 @@ place_of-requires-clause-few_batches g c =
 pub place_of-requires-clause-few_entries : goal.place_of-requires-clause-few_entries
 place_of-requires-clause-few_entries g c =
     let f = c.self.inside in
-    let calls = few_calls f.job f.report c.self.invariant.calls in
+    let calls = few_calls (g.W.LeafWork.meaning f.work.value) f.job f.report c.self.invariant.calls in
     let most = c.acts-acts.ensures.job.most in
     let same = ap (λ book. length (flat book)) c.batches.ensures.batches in
     omega (arith, calls, most, same)
@@ -29,4 +29,4 @@ unreachable-requires g c =
     let call = subst (λ (acts : List Act). IsCallLeaf acts c.args.handle.leaf) (λ i. (sym c.self.view_is i).job.acts) c.requires in
     let none : place_of f.report.history c.args.handle.leaf ≡ None =
     sym (λ i. place_of (c.batches.ensures.batches i) (c.leaf.ensures i)) ∙ sym c.place_of.ensures ∙ c.in-None.is in
-    has_place f.job f.report c.self.invariant.calls c.args.handle.leaf call none
+    has_place (g.W.LeafWork.meaning f.work.value) f.job f.report c.self.invariant.calls c.args.handle.leaf call none

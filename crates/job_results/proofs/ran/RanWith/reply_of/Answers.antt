@@ -1,4 +1,4 @@
-use Rattle.serial_runs.proofs.SerialOrder.{found_reply}
+use Rattle.serial_runs.proofs.Values.{found_reply}
 use Rattle.job_results.proofs.ran.RanWith.reply_of.Goals as goal
 
 pub returns : goal.returns

@@ -9,5 +9,5 @@ text-requires-clause-rows g c = rows_fill c.self.inside.job c.self.inside.report
 pub text-requires-clause-numbers : goal.text-requires-clause-numbers
 text-requires-clause-numbers g c =
     let f = c.self.inside in
-    all_named c.arguments_keep_objects.ensures.number f.job f.report.history (flat f.report.history)
+    all_named c.arguments_keep_objects.ensures.number (g.W.LeafWork.meaning f.work.value) f.job f.report.history (flat f.report.history)
     (c.named_numbers_are_by_first_use.ensures.most f.job.acts f.job.names c.acts-acts.ensures.job.objects) c.self.invariant.calls.operations

@@ -1,7 +1,7 @@
 -- What is true of each draft stays so, and makes the job of a draft one.
 use Rattle.std.proofs.Common.{ℕ, zero, suc, ◌≡◌, ◌<◌, ◌≤◌, ◌⊎◌, inl, inr, Bool, true, false, ◌&&◌, List, [], ◌∷◌, ◌++◌, length, map, Option, Some, None, arith, refl, sym, ap, ◌∙◌, subst, length-append}
 use Rattle.std.proofs.lemmas.List.{length-map, map_push}
-use Rattle.std.specs.Prelude.{slice_get, ◌==◌, if◌then◌else◌}
+use Rattle.std.specs.Prelude.{slice_get, is_some, ◌==◌, if◌then◌else◌}
 use Rattle.std.proofs.lemmas.Option.{slice_get_within}
 use Rattle.limits.specs.declared.TheConstants.{MOST_LEAVES, MOST_OPEN_BLOCKS}
 use Rattle.seq_objects.specs.declared.op.Op.{Op}
@@ -13,7 +13,7 @@ use Rattle.seq_objects.proofs.Elements.{each_push}
 use Rattle.seq_objects.proofs.Parts.{argument_given, argument_leaves_kind, argument_leaves_number, argument_leaves_taking}
 use Rattle.sp_order.specs.Precedence.{leaf_count, IsBefore}
 use Rattle.sp_order.specs.Objects.{AreNumbered, AreUnnamed}
-use Rattle.sp_order.specs.Sources.{AreSources, IsCallLeaf, IsSource}
+use Rattle.sp_order.specs.Sources.{AreSources, Calls, IsSource}
 use Rattle.job_lang.specs.declared.join.Order.{Order}
 use Rattle.job_lang.specs.Objects.{NamedObject, names_of, numbers_of}
 use Rattle.job_lang.proofs.ExpandLemmas.Numbering.{AreNaming, Names, are_numbered, are_unnamed, naming_length}
@@ -25,7 +25,7 @@ use Rattle.joined_shapes.proofs.Precedence.{leaf_keeps, shown_before}
 use Rattle.joined_shapes.proofs.Stepping.{closed_leaves}
 use Rattle.named_objects.specs.declared.objects.Object.{Object}
 use Rattle.named_objects.specs.Objects.{IsSpelled, named_in}
-use Rattle.job_builder.specs.Drafts.{Draft, closed, is_call, may_use, nothing, opened, with_leaf}
+use Rattle.job_builder.specs.Drafts.{Draft, closed, is_call, may_use, may_work_with, nothing, opened, with_leaf}
 use Rattle.job_builder.specs.Code.Kept.{draft_of, IsDraft, MayAdd, MayHave}
 
 -- what stands in a list with one more element
@@ -43,9 +43,6 @@ at_front (z ∷ xs) ys (suc i) x is = at_front xs ys i x is
 at_last : {X : Type 0} (xs : List X) (y : X) → slice_get (xs ++ y ∷ []) (length xs) ≡ Some y
 at_last [] y = refl
 at_last (z ∷ xs) y = at_last xs y
-
-call_stays : (acts : List Act) (act : Act) (u : ℕ) → IsCallLeaf acts u → IsCallLeaf (acts ++ act ∷ []) u
-call_stays acts act u is = (is.0, at_front acts (act ∷ []) u (Call is.0) is.1)
 
 naming_push : (acts : List Act) (objects : List (Option NamedObject)) (act : Act) (object : Option NamedObject) → AreNaming acts objects → Names act object → AreNaming (acts ++ act ∷ []) (objects ++ object ∷ [])
 naming_push [] [] act object are names = (names, tt)
@@ -67,11 +64,11 @@ nothing_is job = record {
 module _ (draft : Draft) (is : IsDraft draft) where
   source_stays : (act : Act) (leaf source : ℕ) → IsSource (shape_of draft.blocks) draft.acts leaf source → IsSource (shape_of (blocks.with_leaf draft.blocks)) (draft.acts ++ act ∷ []) leaf source
   source_stays act leaf source of = record {
-    op = of.op;
-    call = at_front draft.acts (act ∷ []) leaf (Call of.op) of.call;
-    argument = of.argument;
-    stands_as_zero = of.stands_as_zero;
-    calls = call_stays draft.acts act source of.calls;
+    act = of.act;
+    is = at_front draft.acts (act ∷ []) leaf of.act of.is;
+    from = of.from;
+    stands = at_front draft.acts (act ∷ []) source of.from of.stands;
+    takes = of.takes;
     before = leaf_keeps draft.blocks source leaf of.before;
   }
 
@@ -80,14 +77,14 @@ module _ (draft : Draft) (is : IsDraft draft) where
   new_source act None source e may = cc
   new_source act (Some other) source e may =
       let same : other ≡ source = cc in
-      let less : other < draft.blocks.leaves = let within = slice_get_within draft.acts other (Call may.4.0) may.4.1 in let counted = is.counted in omega (arith, within, counted) in
+      let less : other < draft.blocks.leaves = let within = slice_get_within draft.acts other may.0 may.1 in let counted = is.counted in omega (arith, within, counted) in
       let first : IsSource (shape_of (blocks.with_leaf draft.blocks)) (draft.acts ++ act ∷ []) (length draft.acts) other = record {
-        op = may.0;
-        call = at_last draft.acts act ∙ ap Some may.1;
-        argument = may.2;
-        stands_as_zero = may.3;
-        calls = call_stays draft.acts act other may.4;
-        before = subst (λ n. IsBefore (shape_of (blocks.with_leaf draft.blocks)) other n) is.counted (shown_before draft.blocks other is.nested less may.5);
+        act = act;
+        is = at_last draft.acts act;
+        from = may.0;
+        stands = at_front draft.acts (act ∷ []) other may.0 may.1;
+        takes = may.2;
+        before = subst (λ n. IsBefore (shape_of (blocks.with_leaf draft.blocks)) other n) is.counted (shown_before draft.blocks other is.nested less may.3);
       } in
       subst (λ n. IsSource (shape_of (blocks.with_leaf draft.blocks)) (draft.acts ++ act ∷ []) (length draft.acts) n) same first
 
@@ -149,23 +146,28 @@ module _ (draft : Draft) (is : IsDraft draft) where
   pub draft_numbered : AreNumbered draft.acts (numbers_of draft.objects) (names_of draft.objects)
   draft_numbered = are_numbered draft.acts draft.objects is.naming is.spelled
 
--- a leaf whose reply may be used
+-- a leaf whose value may be taken
 
 both_true : (a b : Bool) → (a && b) ≡ true → (a ≡ true) × (b ≡ true)
 both_true true b is = (refl, is)
 both_true false b is = cc
 
-call_at : (acts : List Act) (found : Option Act) (u : ℕ) → slice_get acts u ≡ found → is_call found ≡ true → IsCallLeaf acts u
-call_at acts None u at is = cc
-call_at acts (Some (Work steps)) u at is = cc
-call_at acts (Some (Call op)) u at is = (op, at)
+some_at : (acts : List Act) (found : Option Act) (u : ℕ) → slice_get acts u ≡ found → is_some found ≡ true → (from : Act) × (slice_get acts u ≡ Some from)
+some_at acts None u at is = cc
+some_at acts (Some from) u at is = (from, at)
 
-pub used_leaf : (draft : Draft) (job leaf : ℕ) → (job == draft.job && (is_call (slice_get draft.acts leaf) && is_shown draft.blocks leaf)) ≡ true
-    → IsCallLeaf draft.acts leaf × (is_shown draft.blocks leaf ≡ true)
+calls : (found : Option Act) (from : Act) → found ≡ Some from → is_call found ≡ true → Calls from
+calls None from at is = cc
+calls (Some (Work steps)) from at is = cc
+calls (Some (Call op)) from at is = let same : Call op ≡ from = cc in subst Calls same tt
+
+used_leaf : (draft : Draft) (job leaf : ℕ) → (job == draft.job && (is_some (slice_get draft.acts leaf) && is_shown draft.blocks leaf)) ≡ true
+    → (from : Act) × (slice_get draft.acts leaf ≡ Some from) × (is_shown draft.blocks leaf ≡ true)
 used_leaf draft job leaf may =
-    let all = both_true (job == draft.job) (is_call (slice_get draft.acts leaf) && is_shown draft.blocks leaf) may in
-    let both = both_true (is_call (slice_get draft.acts leaf)) (is_shown draft.blocks leaf) all.1 in
-    (call_at draft.acts (slice_get draft.acts leaf) leaf refl both.0, both.1)
+    let all = both_true (job == draft.job) (is_some (slice_get draft.acts leaf) && is_shown draft.blocks leaf) may in
+    let both = both_true (is_some (slice_get draft.acts leaf)) (is_shown draft.blocks leaf) all.1 in
+    let found = some_at draft.acts (slice_get draft.acts leaf) leaf refl both.0 in
+    (found.0, found.1, both.1)
 
 -- the fields of a builder, after a step
 
@@ -200,7 +202,7 @@ names_argued op (Some object) names = (argument_leaves_number op 0 ∙ names.0, 
 argument_zero : (op : Op) → has_argument op ≡ true → argument_of (with_argument op 0) ≡ 0
 argument_zero op takes = argument_given (verb_of op) (number_of op) 0 ∙ ap (λ b. if b then 0 else 0) takes
 
--- a call that uses a reply may be added where it may use it
+-- a call may be added where it may take the value, and a leaf of work where it may
 pub may_use_so : (draft : Draft) (op : Op) (used : HandleValue) (object : Option NamedObject) → has_argument op ≡ true → Names (Call op) object → IsSpelled object → may_use draft used ≡ true
     → MayAdd draft (Call (with_argument op 0)) (Some used.leaf) object
 may_use_so draft op used object argument names spelled may =
@@ -208,5 +210,15 @@ may_use_so draft op used object argument names spelled may =
     record {
       names = names_argued op object names;
       spelled = spelled;
-      sourced = (with_argument op 0, refl, argument_leaves_taking op 0 ∙ argument, argument_zero op argument, is.0, is.1);
+      sourced = (is.0, is.1, (argument_leaves_taking op 0 ∙ argument, argument_zero op argument), is.2);
+    }
+
+pub may_work_so : (draft : Draft) (used : HandleValue) → may_work_with draft used ≡ true → MayAdd draft (Work 0) (Some used.leaf) None
+may_work_so draft used may =
+    let both = both_true (is_call (slice_get draft.acts used.leaf)) (may_use draft used) may in
+    let is = used_leaf draft used.job used.leaf both.1 in
+    record {
+      names = refl;
+      spelled = tt;
+      sourced = (is.0, is.1, (refl, calls (slice_get draft.acts used.leaf) is.0 is.1 both.0), is.2);
     }

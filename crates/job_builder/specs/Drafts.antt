@@ -1,5 +1,5 @@
 -- A job while it is built: its open blocks, and the acts, the sources and the objects of its leaves so far.
-use Rattle.std.specs.Prelude.{ℕ, Bool, true, false, ◌&&◌, ◌==◌, List, [], ◌∷◌, ◌++◌, length, Option, Some, None, slice_get}
+use Rattle.std.specs.Prelude.{ℕ, Bool, true, false, is_some, ◌&&◌, ◌==◌, List, [], ◌∷◌, ◌++◌, length, Option, Some, None, slice_get}
 use Rattle.seq_objects.specs.declared.act.Act.{Act}
 use Rattle.seq_objects.specs.declared.act.Act.TheVariants.{Work, Call}
 use Rattle.seq_objects.specs.declared.kind.Kind.{Kind}
@@ -13,7 +13,7 @@ use Rattle.joined_shapes.specs.Blocks.{Blocks, outside, is_shown, shape_of}
 use Rattle.joined_shapes.specs.Blocks as blocks
 
 -- The number of the job, by which its handles are told from those of other jobs; its open blocks; and for each leaf its
--- act, the leaf whose reply is its argument, and the object that it names. A call that names an object has the number 0
+-- act, the leaf whose value it takes, and the object that it names. A call that names an object has the number 0
 -- until the job is finished.
 pub record Draft : Type 0 where
   pub job : ℕ
@@ -50,14 +50,18 @@ closed draft = with_blocks draft (blocks.closed draft.blocks)
 abbrev pub next_handle : Draft → HandleValue
 next_handle draft = record { job = draft.job; leaf = length draft.acts }
 
+-- whether a call here may take the value of a leaf: it is a leaf of this job, and before the leaf that is added next
+abbrev pub may_use : Draft → HandleValue → Bool
+may_use draft handle = handle.job == draft.job && (is_some (slice_get draft.acts handle.leaf) && is_shown draft.blocks handle.leaf)
+
 abbrev pub is_call : Option Act → Bool
 is_call None = false
 is_call (Some (Work steps)) = false
 is_call (Some (Call op)) = true
 
--- whether a call here may use the reply of a leaf: it is a call of this job, and before the leaf that is added next
-abbrev pub may_use : Draft → HandleValue → Bool
-may_use draft handle = handle.job == draft.job && (is_call (slice_get draft.acts handle.leaf) && is_shown draft.blocks handle.leaf)
+-- whether a leaf of work here may take the value of a leaf: a call may take it, and it is that of a reply
+abbrev pub may_work_with : Draft → HandleValue → Bool
+may_work_with draft handle = is_call (slice_get draft.acts handle.leaf) && may_use draft handle
 
 -- the object of a kind with this name
 abbrev pub object : Kind → Name → NamedObject

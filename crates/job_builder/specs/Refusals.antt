@@ -4,7 +4,7 @@ use Rattle.limits.specs.declared.TheConstants.{MOST_LEAVES, MOST_OPEN_BLOCKS}
 use Rattle.job_builder.specs.declared.error.BuildError.{BuildError}
 use Rattle.job_builder.specs.declared.error.BuildError.TheVariants.{Full, Nesting, NoBlock, Unclosed, NotVisible, Memory}
 use Rattle.leaf_handles.specs.Handles.{HandleValue}
-use Rattle.job_builder.specs.Drafts.{Draft, may_use}
+use Rattle.job_builder.specs.Drafts.{Draft, may_use, may_work_with}
 
 -- to add a leaf
 abbrev pub IsNoLeaf : Draft → BuildError → Type 0
@@ -15,7 +15,7 @@ IsNoLeaf draft Unclosed = ⊥
 IsNoLeaf draft NotVisible = ⊥
 IsNoLeaf draft Memory = ⊤
 
--- to add a call that uses the reply of a leaf
+-- to add a call that takes the value of a leaf
 abbrev pub IsNoUse : Draft → HandleValue → BuildError → Type 0
 IsNoUse draft handle Full = length draft.acts ≡ MOST_LEAVES
 IsNoUse draft handle Nesting = ⊥
@@ -23,6 +23,15 @@ IsNoUse draft handle NoBlock = ⊥
 IsNoUse draft handle Unclosed = ⊥
 IsNoUse draft handle NotVisible = may_use draft handle ≡ false
 IsNoUse draft handle Memory = ⊤
+
+-- to add a leaf of work that takes the value of a leaf
+abbrev pub IsNoWork : Draft → HandleValue → BuildError → Type 0
+IsNoWork draft handle Full = length draft.acts ≡ MOST_LEAVES
+IsNoWork draft handle Nesting = ⊥
+IsNoWork draft handle NoBlock = ⊥
+IsNoWork draft handle Unclosed = ⊥
+IsNoWork draft handle NotVisible = may_work_with draft handle ≡ false
+IsNoWork draft handle Memory = ⊤
 
 -- to open a block
 abbrev pub IsNotOpened : Draft → BuildError → Type 0

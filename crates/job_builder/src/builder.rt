@@ -2,8 +2,8 @@
 ghost use Rattle.std.specs.Prelude.{◌≡◌, ◌<◌, true, [], None, Some, IfOk, IfErr, OnOk, OnErr, length};
 ghost use Rattle.job_lang.proofs.ExpandLemmas.Numbering.{Names};
 ghost use Rattle.limits.specs.declared.TheConstants.{MOST_LEAVES, MOST_OPEN_BLOCKS};
-ghost use Rattle.job_builder.specs.Drafts.{built, closed, may_use, next_handle, nothing, object as object_of, opened, with_leaf};
-ghost use Rattle.job_builder.specs.Refusals.{IsNoLeaf, IsNoUse, IsNotClosed, IsNotOpened, IsUnfinished};
+ghost use Rattle.job_builder.specs.Drafts.{built, closed, may_use, may_work_with, next_handle, nothing, object as object_of, opened, with_leaf};
+ghost use Rattle.job_builder.specs.Refusals.{IsNoLeaf, IsNoUse, IsNoWork, IsNotClosed, IsNotOpened, IsUnfinished};
 ghost use Rattle.named_objects.specs.Objects.{IsSpelled, IsSpelledName, named_in, object_in};
 ghost use Rattle.seq_objects.specs.Objects.{number_of};
 ghost use Rattle.seq_objects.specs.Parts.{kind_of};
@@ -168,7 +168,7 @@ impl Builder {
         self.add(Act::Call(op), None, Some(named(op, name)))
     }
 
-    /// Whether a call here may use the reply of this leaf.
+    /// Whether a call here may take the value of this leaf.
     pub fn may_use(&self, handle: Handle) -> bool
         ensures { result ≡ may_use self.now handle }
     {
@@ -176,13 +176,38 @@ impl Builder {
             return false;
         }
         match self.acts.get(handle.leaf() as usize) {
-            Some(Act::Call(_)) => self.blocks.shows(handle.leaf()),
+            Some(_) => self.blocks.shows(handle.leaf()),
+            None => false,
+        }
+    }
+
+    /// Whether a leaf of work here may take the value of this leaf: it is that of a reply, and a call may take it.
+    pub fn may_work_with(&self, handle: Handle) -> bool
+        ensures { result ≡ may_work_with self.now handle }
+    {
+        match self.acts.get(handle.leaf() as usize) {
+            Some(Act::Call(_)) => self.may_use(handle),
             _ => false,
         }
     }
 
-    /// Adds a call with the reply of a leaf as its argument, of the object of its kind with this name or without one.
-    fn use_reply(
+    /// Adds a leaf that works on the reply of an earlier call: its number is the low 32 bits of the value of that reply.
+    pub fn work_with(&mut self, used: Handle) -> Result<Handle, BuildError>
+        ensures ok { OnOk result (self.new ≡ with_leaf self.old (acts.Work 0) (Some used.leaf) None) }
+        ensures handle { IfOk result (λ handle. handle ≡ next_handle self.old) }
+        ensures room { OnOk result (length self.old.acts < MOST_LEAVES) }
+        ensures visible { OnOk result (may_work_with self.old used ≡ true) }
+        ensures err { OnErr result (self.new ≡ self.old) }
+        ensures cause { IfErr result (IsNoWork self.old used) }
+    {
+        if !self.may_work_with(used) {
+            return Err(BuildError::NotVisible);
+        }
+        self.add(Act::Work(0), Some(used.leaf()), None)
+    }
+
+    /// Adds a call with the value of a leaf as its argument, of the object of its kind with this name or without one.
+    fn use_value(
         &mut self,
         op: Op,
         object: Option<Object>,
@@ -205,8 +230,8 @@ impl Builder {
         self.add(Act::Call(op.with_argument(0)), Some(used.leaf()), object)
     }
 
-    /// Adds a call of the object of its kind without a name. Its argument is the reply of an earlier call, whatever number
-    /// the operation carries.
+    /// Adds a call of the object of its kind without a name. Its argument is the low 32 bits of the value of an
+    /// earlier leaf, whatever number the operation carries.
     pub fn call_with(&mut self, op: Op, used: Handle) -> Result<Handle, BuildError>
         requires number { number_of op ≡ 0 }
         requires argument { has_argument op ≡ true }
@@ -218,11 +243,11 @@ impl Builder {
         ensures err { OnErr result (self.new ≡ self.old) }
         ensures cause { IfErr result (IsNoUse self.old used) }
     {
-        self.use_reply(op, None, used)
+        self.use_value(op, None, used)
     }
 
-    /// Adds a call of the object of its kind with this name. Its argument is the reply of an earlier call, whatever number
-    /// the operation carries.
+    /// Adds a call of the object of its kind with this name. Its argument is the low 32 bits of the value of an
+    /// earlier leaf, whatever number the operation carries.
     pub fn call_on_with(&mut self, name: Name, op: Op, used: Handle) -> Result<Handle, BuildError>
         requires number { number_of op ≡ 0 }
         requires argument { has_argument op ≡ true }
@@ -237,7 +262,7 @@ impl Builder {
         ensures err { OnErr result (self.new ≡ self.old) }
         ensures cause { IfErr result (IsNoUse self.old used) }
     {
-        self.use_reply(op, Some(named(op, name)), used)
+        self.use_value(op, Some(named(op, name)), used)
     }
 
     /// The job. All blocks must be closed. The builder stays, and may go on.

@@ -12,7 +12,7 @@ pub enum BuildError {
     NoBlock,
     /// A block is still open.
     Unclosed,
-    /// The reply that the call is to use is not visible at its place.
+    /// The value that a call is to take, or the reply that a leaf of work is to take, is not visible at its place.
     NotVisible,
     /// Memory ran out.
     Memory,

@@ -1,11 +1,8 @@
 -- What is true of each draft, and of a leaf that may be added to it.
-use Rattle.std.specs.Prelude.{◌≡◌, ℕ, ◌≤◌, true, List, length, Option, Some, None, map, ⊤}
+use Rattle.std.specs.Prelude.{◌≡◌, ℕ, ◌≤◌, true, List, length, Option, Some, None, map, slice_get, ⊤}
 use Rattle.limits.specs.declared.TheConstants.{MOST_LEAVES, MOST_OPEN_BLOCKS}
-use Rattle.seq_objects.specs.declared.op.Op.{Op}
 use Rattle.seq_objects.specs.declared.act.Act.{Act}
-use Rattle.seq_objects.specs.declared.act.Act.TheVariants.{Call}
-use Rattle.seq_objects.specs.Objects.{argument_of}
-use Rattle.sp_order.specs.Sources.{AreSources, IsCallLeaf, has_argument}
+use Rattle.sp_order.specs.Sources.{AreSources, MayTake}
 use Rattle.job_lang.proofs.ExpandLemmas.Numbering.{AreNaming, Names}
 use Rattle.named_objects.specs.declared.objects.Object.{Object}
 use Rattle.named_objects.specs.Objects.{AreSpelled, IsSpelled, NamedObject, named_in}
@@ -28,8 +25,7 @@ pub record IsDraft (draft : Draft) : Type 0 where
 -- the act may have this source, if it has one
 abbrev pub MayHave : Draft → Act → Option ℕ → Type 0
 MayHave draft act None = ⊤
-MayHave draft act (Some source) =
-    (op : Op) × (act ≡ Call op) × (has_argument op ≡ true) × (argument_of op ≡ 0) × IsCallLeaf draft.acts source × (is_shown draft.blocks source ≡ true)
+MayHave draft act (Some source) = (from : Act) × (slice_get draft.acts source ≡ Some from) × MayTake act from × (is_shown draft.blocks source ≡ true)
 
 pub record MayAdd (draft : Draft) (act : Act) (source : Option ℕ) (object : Option NamedObject) : Type 0 where
   pub names : Names act object

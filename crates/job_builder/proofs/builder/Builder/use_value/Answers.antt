@@ -5,7 +5,7 @@ use Rattle.seq_objects.specs.Parts.{with_argument}
 use Rattle.named_objects.specs.Objects.{named_in}
 use Rattle.job_builder.specs.Code.Kept.{MayAdd}
 use Rattle.job_builder.proofs.Drafting.{may_use_so}
-use Rattle.job_builder.proofs.builder.Builder.use_reply.Goals as goal
+use Rattle.job_builder.proofs.builder.Builder.use_value.Goals as goal
 
 pub add-requires : goal.add-requires
 add-requires c =

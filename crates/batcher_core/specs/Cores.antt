@@ -2,14 +2,13 @@
 use Rattle.core_state.specs.Abstraction.{core_state_of, state_of}
 use Rattle.core_model.specs.Choice.{choice}
 use Rattle.core_model.specs.Runs.{IsStep}
-use Rattle.core_model.specs.State.{CoreJob, CoreState, core_job_with}
+use Rattle.core_model.specs.State.{CoreJob, CoreState, core_job, core_job_with}
 use Rattle.core_model.specs.Tasks.{is_done}
 use Rattle.core_state.specs.WorkDue.{work_due}
 use Rattle.core_model.specs.declared.event.Event.{Event}
 use Rattle.core_state.specs.declared.state.State.{State as StoredState}
 use Rattle.batcher_core.specs.declared.turn.Turn.{Turn}
 use Rattle.batcher_core.specs.declared.turn.Turn.TheVariants.{Idle, Moved, Spin}
-use Rattle.seq_objects.specs.Spin.{spin_of}
 use Rattle.sp_order.specs.Jobs.{JobValue}
 use Rattle.std.specs.Prelude.{Bool, None, Option, Some, not, ℕ, ◌&&◌, ◌≡◌}
 
@@ -27,7 +26,7 @@ job_in_with work c = core_job_with work c.job c.workers
 
 -- the same where they spin
 abbrev pub job_in : CoreView → CoreJob
-job_in = job_in_with spin_of
+job_in c = core_job c.job c.workers
 
 abbrev pub state_in : CoreView → CoreState
 state_in c = core_state_of c.table

@@ -2,10 +2,9 @@
 use Rattle.batch_history.specs.declared.report.Report.{Report}
 use Rattle.batch_history.specs.declared.row.Row.{Row}
 use Rattle.core_model.specs.Runs.{Drives, ReachesFrom, Step}
-use Rattle.core_model.specs.State.{CoreJob, CoreState, State, core_job_with, opening_core}
+use Rattle.core_model.specs.State.{CoreJob, CoreState, State, core_job, core_job_with, opening_core}
 use Rattle.core_model.specs.Tasks.{is_done}
 use Rattle.core_model.specs.Words.{Progress, Ran, Tree, leaves}
-use Rattle.seq_objects.specs.Spin.{spin_of}
 use Rattle.sp_order.specs.Jobs.{JobValue, job_tree}
 use Rattle.std.specs.List.{AllByRecursion, range_with_len}
 use Rattle.std.specs.Prelude.{List, None, Option, Some, [], map, true, ℕ, ◌≡◌}
@@ -40,19 +39,18 @@ pub record IsDrivenFrom (job : CoreJob) (leaf_total : ℕ) (first : CoreState) (
   pub drives : Drives job first schedule 0 last
   pub reports : IsReportOf job leaf_total last.state report
 
-abbrev pub IsDrivenShape : (ℕ → ℕ) → Option Tree → JobValue → ℕ → List ℕ → Report → Type 0
-IsDrivenShape work None job workers schedule report = report ≡ record { workers = workers; history = []; rows = [] }
-IsDrivenShape work (Some tree) job workers schedule report =
-    IsDrivenFrom (core_job_with work job workers) (leaves (job_tree job)) opening_core schedule report
+abbrev pub IsDrivenShape : Option Tree → JobValue → CoreJob → List ℕ → Report → Type 0
+IsDrivenShape None job core schedule report = report ≡ record { workers = core.workers; history = []; rows = [] }
+IsDrivenShape (Some tree) job core schedule report = IsDrivenFrom core (leaves (job_tree job)) opening_core schedule report
 
 -- The report of a job driven by a schedule from the opening, where the leaves of work compute `work`. Without leaves,
 -- it has no rows and no batches.
 abbrev pub IsDrivenReportWith : (ℕ → ℕ) → JobValue → ℕ → List ℕ → Report → Type 0
-IsDrivenReportWith work job workers schedule report = IsDrivenShape work job.shape job workers schedule report
+IsDrivenReportWith work job workers schedule report = IsDrivenShape job.shape job (core_job_with work job workers) schedule report
 
 -- the same where they spin
 abbrev pub IsDrivenReport : JobValue → ℕ → List ℕ → Report → Type 0
-IsDrivenReport = IsDrivenReportWith spin_of
+IsDrivenReport job workers schedule report = IsDrivenShape job.shape job (core_job job workers) schedule report
 
 -- The report of a run of the model from `first`: a trace of events of the job's workers leads to a state whose root is
 -- done, and the report is that of this state.
@@ -63,16 +61,15 @@ pub record IsRunFrom (job : CoreJob) (leaf_total : ℕ) (first : CoreState) (rep
   pub over : is_done (last.state.node 0) ≡ true
   pub reports : IsReportOf job leaf_total last.state report
 
-abbrev pub IsRunShape : (ℕ → ℕ) → Option Tree → JobValue → ℕ → Report → Type 0
-IsRunShape work None job workers report = report ≡ record { workers = workers; history = []; rows = [] }
-IsRunShape work (Some tree) job workers report =
-    IsRunFrom (core_job_with work job workers) (leaves (job_tree job)) opening_core report
+abbrev pub IsRunShape : Option Tree → JobValue → CoreJob → Report → Type 0
+IsRunShape None job core report = report ≡ record { workers = core.workers; history = []; rows = [] }
+IsRunShape (Some tree) job core report = IsRunFrom core (leaves (job_tree job)) opening_core report
 
 -- The report is that of some run of the job from the opening state, with any interleaving of its workers, where the
 -- leaves of work compute `work`.
 abbrev pub IsRunReportWith : (ℕ → ℕ) → JobValue → ℕ → Report → Type 0
-IsRunReportWith work job workers report = IsRunShape work job.shape job workers report
+IsRunReportWith work job workers report = IsRunShape job.shape job (core_job_with work job workers) report
 
 -- the same where they spin
 abbrev pub IsRunReport : JobValue → ℕ → Report → Type 0
-IsRunReport = IsRunReportWith spin_of
+IsRunReport job workers report = IsRunShape job.shape job (core_job job workers) report

@@ -1,10 +1,9 @@
 -- The model's job of a `Setting`, and the nodes and leaves of tasks.
 use Rattle.core_model.specs.Operations.{IsLeaf}
-use Rattle.core_model.specs.State.{CoreJob, core_job_with}
+use Rattle.core_model.specs.State.{CoreJob, core_job, core_job_with}
 use Rattle.core_model.specs.declared.setting.Setting.{Setting}
 use Rattle.core_model.specs.declared.task.Task.{Task}
 use Rattle.core_model.specs.declared.task.Task.TheVariants.{Ended, Half, Handed, Idle, Kept, Run, Started, Whole}
-use Rattle.seq_objects.specs.Spin.{spin_of}
 use Rattle.sp_order.specs.Plans.{Nodes}
 use Rattle.sp_order.specs.declared.node.Kind.{Kind}
 use Rattle.sp_order.specs.declared.node.Kind.TheVariants.{LeafNode, ParNode, SeqNode}
@@ -16,7 +15,7 @@ job_with work setting = core_job_with work setting.job setting.workers
 
 -- the same where they spin
 abbrev pub job_of : Setting → CoreJob
-job_of = job_with spin_of
+job_of setting = core_job setting.job setting.workers
 
 -- the leaf at a node of this kind, if it is a leaf
 abbrev pub leaf_at : Option Kind → Option ℕ

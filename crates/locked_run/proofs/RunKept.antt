@@ -1,4 +1,3 @@
-use Rattle.seq_objects.specs.Spin.{spin_of}
 -- A turn keeps the invariant of the state behind the lock, and the report of its core is that of a run of the job.
 use Rattle.std.proofs.Common.{ℕ, ◌≡◌, ◌∙◌, ap, subst, sym, Bool, false, Option, Result, Ok, Err, IfOk}
 use Rattle.sp_order.specs.Jobs.{JobValue, job_tree}
@@ -35,7 +34,7 @@ pub run_reported : {E : Type 0} (made : Result Report E) (value : JobValue) (cou
     → ((job : CoreJob) (leaf_total : ℕ) (state : CoreState) (report : Report) → IsReached job state → IsRunFrom job leaf_total state report → IsRunFrom job leaf_total opening_core report)
     → IfOk made (IsRunReport value count)
 run_reported (Ok report) value count core is reached run goes_on =
-    subst (λ (shape : Option Tree). IsRunShape spin_of shape value count report) (sym is.shape)
+    subst (λ (shape : Option Tree). IsRunShape shape value (core_job value count) report) (sym is.shape)
     (goes_on (core_job value count) (leaves (job_tree value)) (state_in core) report reached
     (subst (λ (job : CoreJob). IsRunFrom job (leaves (job_tree value)) (state_in core) report) (job_of_core value count core is)
     (subst (λ (job : JobValue). IsRunFrom (job_in core) (leaves (job_tree job)) (state_in core) report) is.job_is run)))

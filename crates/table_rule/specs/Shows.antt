@@ -4,7 +4,6 @@ use mathlib.Core.Option.{Option, none, some}
 use lib.ListN.{get_elem?}
 use Rattle.std.specs.List.{AllByRecursion}
 use Rattle.atomic_table.specs.Table.{State as AtomicState}
-use Rattle.seq_objects.specs.Spin.{spin_of}
 use Rattle.seq_objects.specs.Pairs.{AreDistinct}
 use Rattle.batch_history.specs.Book.{flat}
 use Rattle.batch_history.specs.Reserved.{ReservedView}
@@ -265,7 +264,3 @@ pub record Shows (job : CoreJob) (room : ℕ) (t : TableState) : Type 0 where
 -- The rule of the table, where the leaves of work compute `work`: `atomic_table` keeps it between any two steps.
 abbrev pub ShownWith : (ℕ → ℕ) → Setting → TableState → Type 0
 ShownWith work key = Shows (job_with work key) (room_of key)
-
--- the same where they spin
-abbrev pub Shown : Setting → TableState → Type 0
-Shown = ShownWith spin_of

@@ -1,10 +1,9 @@
 -- Which tasks a pass may have, the progress that a finish leaves, and the next act of a view.
 use Rattle.std.specs.Prelude.{ℕ, ◌≡◌, ◌≢◌, ◌<◌, ◌*◌, Option as Maybe, Some}
 use Rattle.limits.specs.declared.TheConstants.{MOST_LEAVES}
-use Rattle.seq_objects.specs.Spin.{spin_of}
 use Rattle.core_model.specs.Words.{Kind, ParNode, Nodes}
 use Rattle.table_rule.specs.CoreWords.{Progress, Done, Ran, Task, Idle, Run, Half, Started, Kept, Ended, Whole, Handed}
-use Rattle.core_model.specs.State.{CoreJob, core_job_with}
+use Rattle.core_model.specs.State.{CoreJob, core_job, core_job_with}
 use Rattle.core_model.specs.Operations.{IsLeaf}
 use Rattle.core_model.specs.Next.{next_act}
 use Rattle.core_model.specs.declared.next.Next.{Next}
@@ -41,7 +40,7 @@ job_seen_with work v = core_job_with work v.job v.workers
 
 -- the same where they spin
 abbrev pub job_seen : View → CoreJob
-job_seen = job_seen_with spin_of
+job_seen v = core_job v.job v.workers
 
 -- this is the next act of the view's task and call
 abbrev pub IsNext : View → Next → Type 0

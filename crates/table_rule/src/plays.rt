@@ -12,7 +12,7 @@ use core_model::Setting;
 use leaf_work::WorkBrand;
 use std::marker::PhantomData;
 
-/// The rule of the running table: its words, slots and views show a state of the scheduler's core (`Shown`).
+/// The rule of the running table: its words, slots and views show a state of the scheduler's core (`ShownWith`).
 /// A step is made only with a proof that it keeps this rule.
 ///
 /// `B` says what the leaves of work compute.

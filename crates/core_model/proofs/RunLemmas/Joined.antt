@@ -25,10 +25,10 @@ driven_from job leaf_total first schedule report driven = record {
   reports = driven.reports;
 }
 
-pub driven_shape : (work : ℕ → ℕ) (shape : Option Tree) (job : JobValue) (workers : ℕ) (schedule : List ℕ) (report : Report) → IsDrivenShape work shape job workers schedule report
-    → IsRunShape work shape job workers report
-driven_shape work None job workers schedule report same = same
-driven_shape work (Some tree) job workers schedule report driven = driven_from _ _ _ schedule report driven
+pub driven_shape : (shape : Option Tree) (job : JobValue) (core : CoreJob) (schedule : List ℕ) (report : Report) → IsDrivenShape shape job core schedule report
+    → IsRunShape shape job core report
+driven_shape None job core schedule report same = same
+driven_shape (Some tree) job core schedule report driven = driven_from _ _ _ schedule report driven
 
 pub goes_on : (job : CoreJob) (leaf_total : ℕ) (first : CoreState) (report : Report) → IsReached job first → IsRunFrom job leaf_total first report
     → IsRunFrom job leaf_total opening_core report

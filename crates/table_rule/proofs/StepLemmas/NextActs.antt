@@ -1,5 +1,5 @@
 -- What the next act of a task says of the task, by the kind of act.
-use Rattle.std.proofs.Common.{ℕ, ◌≡◌, ◌<◌, true, Option as Maybe, None, Some, refl, sym, ap, ◌∙◌, subst, inl, inr}
+use Rattle.std.proofs.Common.{ℕ, ◌≡◌, ◌<◌, true, Option as Maybe, None, Some, refl, sym, ap, ◌∙◌, subst, inl, inr, ◌⊎◌}
 use Rattle.std.proofs.lemmas.Bool.{cases_eq}
 use Rattle.seq_objects.specs.Objects.{value_of}
 use Rattle.seq_objects.specs.declared.act.Act.{Act}
@@ -71,7 +71,7 @@ pub record WorksOn (job : CoreJob) (told : Maybe ℕ) (n value : ℕ) : Type 0 w
   pub number : ℕ
   pub kind : job.plan.kind n ≡ Some (LeafNode leaf)
   pub act : job.act leaf ≡ kinds.Work steps
-  pub told : number_told steps (job.source leaf) told ≡ Some number
+  pub by_told : number_told steps (job.source leaf) told ≡ Some number
   pub is : value ≡ job.work number
 
 -- the value of the leaf at node `n` is this: that of its reply, or of its work
@@ -101,7 +101,7 @@ module _ (job : CoreJob) (task : Task) (call : CallState) where
 
   keep_by : (told : Maybe ℕ) (o : Maybe Next) (value : ℕ) → IsKeepDueWith job.work job.source told o value → ActStands job task call o → MayKeep job told task call value
   keep_by told (Some (acts.Spin n start leaf steps)) value is stands =
-      (n, start, stands.0, inr (record { leaf = leaf; steps = steps; number = is.0; kind = stands.1; act = stands.2; told = is.1; is = is.2 }))
+      (n, start, stands.0, inr (record { leaf = leaf; steps = steps; number = is.0; kind = stands.1; act = stands.2; by_told = is.1; is = is.2 }))
   keep_by told (Some (acts.Got n start reply)) value is stands = (n, start, stands.0, inl (λ worked. stands.1 worked ∙ ap Some (sym is)))
   keep_by told _ value is stands = absurd is
 

@@ -1,6 +1,6 @@
 -- What was told of the source of a leaf is its value under the book; so the operation of a call, and the value of a leaf
 -- of work, are by what was told as they are under the book.
-use Rattle.std.proofs.Common.{ℕ, ◌≡◌, ◌≢◌, ◌×◌, ◌⊎◌, Option as Maybe, None, Some, List, inl, inr, refl, sym, ap, ◌∙◌}
+use Rattle.std.proofs.Common.{ℕ, ◌≡◌, ◌⊎◌, Option as Maybe, None, Some, List, inl, inr, refl, sym, ap, ◌∙◌}
 use Rattle.std.specs.Option.{option_map}
 use Rattle.seq_objects.specs.declared.act.Act.{Act}
 use Rattle.seq_objects.specs.declared.act.Act.TheVariants.{Work, Call}
@@ -59,7 +59,7 @@ told_keep job s told task call value sources known may = by_case may.3 where
   by_case (inl is) = is (value_under job s.book (leaf_of (job.plan.kind may.0)))
   by_case (inr on) =
       let leaf_is : leaf_of (job.plan.kind may.0) ≡ on.leaf = ap leaf_of on.kind in
-      let number = told_number job s.book told (job.source on.leaf) on.steps on.number on.told (λ v r is from. (
+      let number = told_number job s.book told (job.source on.leaf) on.steps on.number on.by_told (λ v r is from. (
         (sources may.0 on.leaf r on.kind from).calls (ap op_in on.act),
         told_value job s told task may.0 may.1 on.leaf may.2 on.kind known v r is from,
       )) in

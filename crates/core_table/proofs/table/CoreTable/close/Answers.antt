@@ -1,3 +1,4 @@
+use Rattle.core_model.specs.State.{core_job_with}
 use Rattle.core_model.specs.Settings.{job_with}
 use Rattle.std.proofs.Common.{◌≡◌, ℕ, ◌<◌, ◌+◌, Option, sym, ap, subst, ◌∙◌, refl, arith}
 use Rattle.std.specs.List.{range_with_len}
@@ -44,7 +45,7 @@ returns g c =
       lawful = c.done_report_is_lawful.ensures g.B.WorkBrand.work self.setting.job self.setting.workers r.run.last.state _ self.shape self.acts.0 r.parts r.run.over r.run.reports;
       told = (r.table, r.told, (r.seat, r.at));
       run = (r.run, r.own);
-      model = subst (λ (shape : Option Tree). IsRunShape g.B.WorkBrand.work shape self.setting.job self.setting.workers report) (sym self.shape) r.run;
+      model = subst (λ (shape : Option Tree). IsRunShape shape self.setting.job (core_job_with g.B.WorkBrand.work self.setting.job self.setting.workers) report) (sym self.shape) r.run;
       seen = r.seen;
     }
 

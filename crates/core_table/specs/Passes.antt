@@ -30,12 +30,17 @@ use Rattle.table_rule.specs.TracksHold.{TracksHold}
 abbrev pub setting_in : {B : Type 0} → CoreTable B → Setting
 setting_in table = table.setting
 
--- the setting's job: `planned_in` with its plan as `sp_order` has it, `job_in` as the core's rules speak of it
+-- The setting's job: `planned_in` with its plan as `sp_order` has it, and as the core's rules speak of it: `job_in_with`
+-- where the leaves of work compute `work`, and `job_in` where that is of no concern: clauses read of it the plan, the
+-- acts, the sources and the workers alone.
 abbrev pub planned_in : {B : Type 0} → CoreTable B → JobValue
 planned_in table = (setting_in table).job
 
 abbrev pub job_in : {B : Type 0} → CoreTable B → CoreJob
 job_in table = job_of (setting_in table)
+
+abbrev pub job_in_with : {B : Type 0} → (ℕ → ℕ) → CoreTable B → CoreJob
+job_in_with work table = job_with work (setting_in table)
 
 -- the view of worker w's pass on a new table
 abbrev pub opening_view : {B : Type 0} → CoreTable B → ℕ → View

@@ -10,7 +10,7 @@ ghost use Rattle.table_rule.specs.declared.slot.OpRecord.{OpRecord as CallRecord
 ghost use Rattle.table_rule.specs.DueActs.{IsPostDue};
 ghost use Rattle.table_rule.specs.Shows.{record_in, among, entry_of, IsPrefix};
 ghost use Rattle.core_model.specs.Entries.{StandsAt};
-ghost use Rattle.core_table.specs.Passes.{IsPassOf, IsMissOf, job_in, next_in, pass_view, view, IsTrapped};
+ghost use Rattle.core_table.specs.Passes.{IsPassOf, IsMissOf, job_in, job_in_with, next_in, pass_view, view, IsTrapped};
 ghost use Rattle.table_rule.specs.Batches.{IsLookDue, IsPublishDue, IsReleaseDue};
 ghost use Rattle.table_rule.specs.Passes.{call_by, winning, refusing_win, leaving, refusing_leave, releasing, taking, skipping, publishing, answering};
 ghost use Rattle.table_rule.specs.Views.{with_step, with_miss, with_post};
@@ -89,7 +89,7 @@ impl<B: WorkBrand> CoreTable<B> {
             × (book : List (List Entry)) × (view pass.new
             ≡ with_step (leaving call receipt book) (view pass.old))
             × IsPrefix (view pass.old).own.book_seen book
-            × (op_of (job_in self.now) book call.leaf ≡ Some call.op)
+            × (op_of (job_in_with B.work self.now) book call.leaf ≡ Some call.op)
             × StandsAt book receipt.batch receipt.place
             (entry_of (view pass.new).own.worker (record { call = call; receipt = receipt }))
             × ((view pass.old).own.before ≤ receipt.batch)
@@ -122,7 +122,7 @@ impl<B: WorkBrand> CoreTable<B> {
         ensures took { IfSome result (λ call.
             (h : HoldView) × ((view pass.old).own.hold ≡ Some h)
             × IsNewCall (call_count (job_in self.now)) h call
-            × (op_of (job_in self.now) h.book call.leaf ≡ Some call.op)
+            × (op_of (job_in_with B.work self.now) h.book call.leaf ≡ Some call.op)
             × (view pass.new ≡ with_step (taking (call_by u call)) (view pass.old))) }
         ensures passed { IfNone result ((miss : Miss)
             × ((miss.found ≢ PENDING) × IsMissOf B.work self.now pass.old u miss)

@@ -2,7 +2,7 @@
 ghost use Rattle.std.specs.Prelude.{ℕ, ◌≡◌, ◌≤◌, ◌<◌, ◌+◌, Some, [], IfOk, IfErr};
 ghost use Rattle.core_model.specs.declared.next.Next.TheVariants as acts;
 ghost use Rattle.core_model.specs.Operations.{op_of};
-ghost use Rattle.core_table.specs.Passes.{IsNotTrapped, IsPassOf, job_in, next_in, pass_view};
+ghost use Rattle.core_table.specs.Passes.{IsNotTrapped, IsPassOf, job_in, job_in_with, next_in, pass_view};
 ghost use Rattle.worker_crew.specs.Words.{Got};
 ghost use Rattle.piece_board.specs.Boards.{desk_view};
 ghost use Rattle.two_deques.specs.Hands.{held};
@@ -93,7 +93,7 @@ pub(crate) fn make_call<G: Pause, B: WorkBrand, W: LeafWork, R: Wait>(
     requires free { (desk_view me.old.desk).posted ≡ [] }
     ensures pass { IsPassOf crew.now.table me.new.pass }
     ensures me { IfOk result (λ _. IsMeOf crew.now me.new) }
-    ensures stands { IfOk result (λ called. IsServedAs (op_of (job_in crew.now.table))
+    ensures stands { IfOk result (λ called. IsServedAs (op_of (job_in_with B.work crew.now.table))
         leaf (pass_view me.old.pass).worker called.receipt (pass_view me.new.pass).book_seen) }
     ensures first { IfOk result (λ called. (pass_view me.new.pass).first_since ≡ Some called.since) }
     ensures soon { IfOk result (λ called. called.receipt.batch ≤ called.since + 1) }
@@ -140,7 +140,7 @@ pub fn call<G: Pause, B: WorkBrand, W: LeafWork, R: Wait>(
     requires free { (desk_view me.old.desk).posted ≡ [] }
     ensures pass { IsPassOf crew.now.table me.new.pass }
     ensures me { IfOk result (λ _. IsMeOf crew.now me.new) }
-    ensures stands { IfOk result (λ called. IsServedAs (op_of (job_in crew.now.table))
+    ensures stands { IfOk result (λ called. IsServedAs (op_of (job_in_with B.work crew.now.table))
         leaf (pass_view me.old.pass).worker called.receipt (pass_view me.new.pass).book_seen) }
     ensures first { IfOk result (λ called. (pass_view me.new.pass).first_since ≡ Some called.since) }
     ensures soon { IfOk result (λ called. called.receipt.batch ≤ called.since + 1) }

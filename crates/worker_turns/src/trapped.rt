@@ -3,7 +3,7 @@ ghost use Rattle.std.specs.Prelude.{◌≡◌, ◌<◌, [], IfOk, IfErr};
 ghost use Rattle.piece_board.specs.Boards.{desk_view};
 ghost use Rattle.two_deques.specs.Hands.{held};
 ghost use Rattle.core_model.specs.Operations.{op_of};
-ghost use Rattle.core_table.specs.Passes.{IsPassOf, job_in, pass_view};
+ghost use Rattle.core_table.specs.Passes.{IsPassOf, job_in, job_in_with, pass_view};
 ghost use Rattle.worker_crew.specs.Passes.{IsTrapped};
 ghost use Rattle.worker_crew.specs.Workers.{me_seen, IsMeOf};
 ghost use Rattle.worker_turns.specs.Stops.{IsStop};
@@ -50,7 +50,7 @@ pub fn trapped_turn<G: Pause, B: WorkBrand, W: LeafWork, R: Wait>(
     ensures path { IfOk result (λ turn. IsTrappedTurn (job_in crew.now.table).workers turn
         (me_seen me.old) (me_seen me.new)) }
     ensures stays { IfOk result (λ turn. StaysTrapped turn (pass_view me.old.pass) (pass_view me.new.pass)) }
-    ensures own { IfOk result (λ turn. LeftOwnOp (op_of (job_in crew.now.table)) turn (pass_view me.new.pass)) }
+    ensures own { IfOk result (λ turn. LeftOwnOp (op_of (job_in_with B.work crew.now.table)) turn (pass_view me.new.pass)) }
     ensures looked { IfOk result (λ _. (pass_view me.old.pass).stop_looks < (pass_view me.new.pass).stop_looks) }
     ensures free { IfOk result (λ _. (desk_view me.new.desk).posted ≡ []) }
     ensures core { IfOk result (λ _. (held me.new.hand).core ≡ (held me.old.hand).core) }

@@ -42,7 +42,7 @@ module _ (job : CoreJob) (laws : Laws job) (v : View) (xs : List (ℕ × Slot)) 
       (End n start, told ∙ ap (λ (y : Task). (with_step (with_task (End n start) y) v, xs)) (sym after), subst (TaskHere job.plan) (sym after) (kept.0, kept.1, low))
   ticks_by None here due is at low starts ends started ended = absurd is
   ticks_by (Some (acts.Open n y event)) here due is at low starts ends started ended = absurd is
-  ticks_by (Some (acts.Spin n start steps)) here due is at low starts ends started ended = absurd is
+  ticks_by (Some (acts.Spin n start leaf steps)) here due is at low starts ends started ended = absurd is
   ticks_by (Some (acts.Call n start leaf op)) here due is at low starts ends started ended = absurd is
   ticks_by (Some (acts.Got n start reply)) here due is at low starts ends started ended = absurd is
   ticks_by (Some (acts.Finish n event)) here due is at low starts ends started ended = absurd is

@@ -1,7 +1,6 @@
 //! Batches of 32 calls, beside one thread.
 ghost use Rattle.std.specs.Prelude.{List};
 ghost use Rattle.seq_objects.specs.declared.call.Call.{Call as CallOf};
-ghost use Rattle.seq_objects.specs.Objects.{Objects};
 ghost use Rattle.seq_objects.specs.Batches.{AreOf, kind_of};
 
 use crate::batch::{are_of, calls_of};
@@ -57,7 +56,7 @@ fn append(
 
 /// The operations of batches of 32 calls in the order in which a structure serves them, with its replies.
 fn served<T: Batched>(alloc: Global, structure: T, one: Op) -> Result<Vec<(Op, Reply)>, AllocError>
-    requires { (content : Objects) (calls : List CallOf) → AreOf (kind_of one) calls → T.may_serve content calls }
+    requires { (before : T) (calls : List CallOf) → AreOf (kind_of one) calls → T.may_serve before calls }
 {
     let mut structure = structure;
     let mut served = Vec::new(alloc);

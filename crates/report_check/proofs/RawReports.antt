@@ -1,7 +1,7 @@
 -- Lawful reports are raw: their numbers fit, and their operations are on objects of the job.
-use Rattle.std.proofs.Common.{◌≡◌, ◌≢◌, ℕ, zero, suc, ◌+◌, ◌*◌, ◌%◌, ◌<◌, ◌≤◌, ◌^◌, inl, inr, List, [], ◌∷◌, length, get_or, map, Some, refl, sym, ap, subst, arith}
+use Rattle.std.proofs.Common.{◌≡◌, ◌≢◌, ℕ, zero, suc, ◌+◌, ◌*◌, ◌%◌, ◌<◌, ◌≤◌, ◌^◌, inl, inr, List, [], ◌∷◌, length, get_or, map, Option, Some, None, refl, sym, ap, subst, arith}
 use Rattle.std.specs.Prelude.{slice_get, Contains}
-use Rattle.std.specs.Option.{ForSome}
+use Rattle.std.specs.Option.{ForSome, option_map}
 use Rattle.std.specs.List.{AllByRecursion, range_with_len}
 use Rattle.std.proofs.lemmas.List.Elements.{recursion_from_All}
 use Rattle.std.proofs.lemmas.Option.{slice_get-get_or}
@@ -19,7 +19,7 @@ use Rattle.sp_order.specs.Sources.{with_value}
 use Rattle.sp_order.specs.Totals.{count_of_act}
 use Rattle.batch_history.specs.Book.{flat, IsBatch}
 use Rattle.batch_history.specs.Lawful.{Lawful}
-use Rattle.batch_history.specs.Operations.{op_of}
+use Rattle.batch_history.specs.Operations.{source_of, number_from, op_of}
 use Rattle.batch_history.specs.Text.{HaveNames}
 use Rattle.batch_history.specs.declared.batch.Entry.{Entry}
 use Rattle.batch_history.specs.declared.report.Report.{Report}
@@ -43,6 +43,10 @@ act_small (act ∷ acts) (suc leaf) op small is = act_small acts leaf op small.1
 work_small : (steps : ℕ) → spin_of steps < 2 ^ 64
 work_small zero = omega arith
 work_small (suc steps) = omega arith
+
+spun_small : (number : Option ℕ) (value : ℕ) → option_map spin_of number ≡ Some value → value < 2 ^ 64
+spun_small None value is = cc
+spun_small (Some number) value is = let same : spin_of number ≡ value = cc in omega (arith, same, work_small number)
 
 range_below : (first n : ℕ) → AllByRecursion (λ x. x < first + n) (range_with_len first n)
 range_below first zero = tt
@@ -88,13 +92,13 @@ module _ (job : JobValue) (report : Report) (small : IsSmallJob job) (few : repo
   row_at leaf low = slice_get-get_or report.rows leaf no_row low
 
   abbrev Serves : Entry → Type 0
-  Serves entry = (entry.leaf < length job.acts) × (op_of job report.history entry.leaf ≡ Some entry.op) × ForSome (slice_get report.rows entry.leaf) (λ row. row.worker ≡ entry.worker) × (value_of entry.reply < 2 ^ 64)
+  Serves entry = (entry.leaf < length job.acts) × (op_of spin_of job report.history entry.leaf ≡ Some entry.op) × ForSome (slice_get report.rows entry.leaf) (λ row. row.worker ≡ entry.worker) × (value_of entry.reply < 2 ^ 64)
 
   serves : AllByRecursion Serves (flat report.history)
-  serves = each_so (λ (entry : Entry). ((entry.leaf < length job.acts) × (op_of job report.history entry.leaf ≡ Some entry.op)) × (ForSome (slice_get report.rows entry.leaf) (λ row. row.worker ≡ entry.worker) × (value_of entry.reply < 2 ^ 64))) Serves
+  serves = each_so (λ (entry : Entry). ((entry.leaf < length job.acts) × (op_of spin_of job report.history entry.leaf ≡ Some entry.op)) × (ForSome (slice_get report.rows entry.leaf) (λ row. row.worker ≡ entry.worker) × (value_of entry.reply < 2 ^ 64))) Serves
       (λ entry is. (is.0.0, is.0.1, is.1.0, is.1.1)) (flat report.history)
-      (each_both (λ (entry : Entry). (entry.leaf < length job.acts) × (op_of job report.history entry.leaf ≡ Some entry.op)) (λ (entry : Entry). ForSome (slice_get report.rows entry.leaf) (λ row. row.worker ≡ entry.worker) × (value_of entry.reply < 2 ^ 64)) (flat report.history)
-      (each_both (λ (entry : Entry). entry.leaf < length job.acts) (λ (entry : Entry). op_of job report.history entry.leaf ≡ Some entry.op) (flat report.history) (leaves_within job.acts (flat report.history) lawful.calls.leaves) lawful.calls.operations)
+      (each_both (λ (entry : Entry). (entry.leaf < length job.acts) × (op_of spin_of job report.history entry.leaf ≡ Some entry.op)) (λ (entry : Entry). ForSome (slice_get report.rows entry.leaf) (λ row. row.worker ≡ entry.worker) × (value_of entry.reply < 2 ^ 64)) (flat report.history)
+      (each_both (λ (entry : Entry). entry.leaf < length job.acts) (λ (entry : Entry). op_of spin_of job report.history entry.leaf ≡ Some entry.op) (flat report.history) (leaves_within job.acts (flat report.history) lawful.calls.leaves) lawful.calls.operations)
       (each_both (λ (entry : Entry). ForSome (slice_get report.rows entry.leaf) (λ row. row.worker ≡ entry.worker)) (λ (entry : Entry). value_of entry.reply < 2 ^ 64) (flat report.history) lawful.calls.workers replies))
 
   fits_entry : (entry : Entry) → Serves entry → FitsEntry entry
@@ -102,7 +106,7 @@ module _ (job : JobValue) (report : Report) (small : IsSmallJob job) (few : repo
       let row = row_at entry.leaf (omega (arith, is.0, long, small.is_job.leaves)) in
       let worker : (get_or report.rows entry.leaf no_row).worker ≡ entry.worker = is.2 (get_or report.rows entry.leaf no_row) row in
       let among : (get_or report.rows entry.leaf no_row).worker < report.workers = row_each (λ (r : Row). r.worker < report.workers) report.rows entry.leaf (get_or report.rows entry.leaf no_row) lawful.rows.among row in
-      let given = called_as job report.history entry.leaf entry.op is.1 in
+      let given = called_as spin_of job report.history entry.leaf entry.op is.1 in
       record {
         leaf = omega (arith, is.0, small.is_job.most);
         worker = omega (arith, worker, among, few);
@@ -112,7 +116,7 @@ module _ (job : JobValue) (report : Report) (small : IsSmallJob job) (few : repo
 
   -- the value of a row is that of work or of a reply
   row_value : (leaf : ℕ) (row : Row) (act : Act) → slice_get report.rows leaf ≡ Some row → slice_get job.acts leaf ≡ Some act → row.value < 2 ^ 64
-  row_value leaf row (Work steps) is does = let value : row.value ≡ spin_of steps = lawful.values.work leaf steps does row is in omega (arith, value, work_small steps)
+  row_value leaf row (Work steps) is does = spun_small (number_from report.history steps (source_of job leaf)) row.value (lawful.values.work leaf steps does row is)
   row_value leaf row (Call op) is does =
       let found = entry_of (flat report.history) leaf (lawful.calls.leaves.each leaf (op, does)) in
       let value : row.value ≡ value_of found.0.reply =
@@ -139,7 +143,7 @@ module _ (job : JobValue) (report : Report) (small : IsSmallJob job) (few : repo
   -- the object of an entry is that of its leaf's act
   own_object : (entry : Entry) → Serves entry → number_of entry.op ≤ length job.names → HasOwnObject job entry.op
   own_object entry is low =
-      let given = called_as job report.history entry.leaf entry.op is.1 in
+      let given = called_as spin_of job report.history entry.leaf entry.op is.1 in
       let same = given_object entry.op given.0 given.1.1 in
       record {
         number = low;

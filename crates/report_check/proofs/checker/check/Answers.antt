@@ -21,8 +21,8 @@ returns-then-not-branch-2-clause-flaw c =
 pub returns-then-not-branch-2-clause-text : goal.returns-then-not-branch-2-clause-text
 returns-then-not-branch-2-clause-text c text has = (c.args.raw.now, has, returns-then-not-branch-2-clause-flaw c)
 
-pub has_calls-requires : goal.has_calls-requires
-has_calls-requires c = let rows = c.in_ok-has_rows.ensures.rows.0 c.if-not-branch.false in long c.args.job.now c.workers.result c.batches-book.result.now c.rows-rows.result.now c.has_rows.ensures.job rows
+pub has_calls-requires-clause-rows : goal.has_calls-requires-clause-rows
+has_calls-requires-clause-rows c = let rows = c.in_ok-has_rows.ensures.rows.0 c.if-not-branch.false in long c.args.job.now c.workers.result c.batches-book.result.now c.rows-rows.result.now c.has_rows.ensures.job rows
 
 pub returns-then-not-branch-3-clause-flaw : goal.returns-then-not-branch-3-clause-flaw
 returns-then-not-branch-3-clause-flaw c =

@@ -5,6 +5,7 @@ ghost use Rattle.bt_io.specs.Causes.{Rose};
 ghost use Rattle.program_io.specs.Ends.{StopCause};
 ghost use Rattle.program_io.specs.Lines.{told_text};
 ghost use Rattle.program_io.specs.Reading.{WasRead};
+ghost use Rattle.sp_order.specs.Sources.{TakeReplies};
 ghost use Rattle.report_check.specs.Flaws.{IsFlawOf};
 ghost use Rattle.batchcheck.specs.Lines.{verdict_text};
 ghost use Rattle.batchcheck.specs.Outcomes.{HasJob, IsJudged, Refuses};
@@ -23,7 +24,7 @@ use report_reader::{ReadReportErr, read_report};
 use sp_order::Job;
 use std::alloc::{AllocError, Global};
 
-/// Reads the job of a file.
+/// Reads the job of a file, whose leaves take replies alone.
 fn read_job_of<I: Shelf>(
     alloc: Global,
     shelf: &mut I,
@@ -31,6 +32,7 @@ fn read_job_of<I: Shelf>(
 ) -> Result<Job, Stop<CheckRefusal>>
     requires { IsTrue (I.may shelf.old file.now) }
     ensures ok { IfOk result (HasJob (I.held shelf.old file.now)) }
+    ensures replies { IfOk result (λ job. TakeReplies job.acts job.sources) }
     ensures err { IfErr result (λ stop. StopsJob stop (I.held shelf.old file.now)
         (Rose (I.faults shelf.old) (I.faults shelf.new))) }
     ensures sure { IsTrue (I.never_fails shelf.old)
@@ -84,6 +86,7 @@ fn read_text_of<I: Shelf>(
 
 /// The flaw of a text as a report of a job, or none.
 fn flaw_of(alloc: Global, job: &Job, text: &[u8]) -> Result<Option<Flaw>, AllocError>
+    requires { TakeReplies job.now.acts job.now.sources }
     ensures { IfOk result (IsFlawOf job.now text.now) }
 {
     match read_report(alloc, job, text) {
@@ -116,6 +119,7 @@ fn judge(
     job: &Job,
     text: &[u8],
 ) -> Result<(Option<Flaw>, Vec<u8>), Stop<CheckRefusal>>
+    requires { TakeReplies job.now.acts job.now.sources }
     ensures flaw { IfOk result (λ told. IsFlawOf job.now text.now told.0) }
     ensures words { IfOk result (λ told. told.1.items ≡ verdict_text told.0) }
     ensures memory { IfErr result (λ stop. stop ≡ Stop.Memory) }

@@ -1,5 +1,6 @@
 //! What is shown of a job: its file is read, and the rows of its leaves or its canonical text are made.
 ghost use Rattle.std.specs.Prelude.{◌≡◌, ◌≤◌, IfOk, IfErr, IsTrue, IsSome, length};
+ghost use Rattle.sp_order.specs.Sources.{TakeReplies};
 ghost use Rattle.program_io.specs.Lines.{told_text};
 ghost use Rattle.jobview.specs.Outcomes.{Shows, IsShown, Refuses};
 ghost use Rattle.jobview.specs.Code.{end_line, IsTextOf, StopsText, StopsShowing};
@@ -18,6 +19,7 @@ use std::alloc::{AllocError, Global};
 
 /// The canonical text of a job, if the job is not too deep for one.
 fn text_of(alloc: Global, job: &Job) -> Result<Vec<u8>, Stop<ViewRefusal>>
+    requires { TakeReplies job.now.acts job.now.sources }
     ensures ok { IfOk result (λ shown. IsTextOf job.now shown.items) }
     ensures err { IfErr result (λ stop. StopsText stop job.now) }
 {

@@ -1,6 +1,9 @@
 pub mod Chunking
 pub mod ChunkSums
+pub mod InterestPaid
+pub mod Plain
 pub mod Refusals
 pub mod SumJobs
 pub mod SumReplies
 pub mod TwoAdds
+pub mod TwoCalls

@@ -95,8 +95,8 @@ pub replied_sum : (sum_is : ℕ) (job : JobValue) (last workers : ℕ) (report :
 replied_sum sum_is job last workers report given is lawful to =
     let items : List ℕ = is.numbers in
     let entries = flat report.history in
-    let run : IsSerialRun job entries = serial spin_of job workers report lawful in
-    let acts = acts_at job report.history entries is.plain lawful.calls.operations in
+    let run : IsSerialRun spin_of job entries = serial spin_of job workers report lawful in
+    let acts = acts_at spin_of job report.history entries is.plain lawful.calls.operations in
     let e = to.call in
     let own : slice_get job.acts e.leaf ≡ Some (Call e.op) = each_at (λ (e : Entry). slice_get job.acts e.leaf ≡ Some (Call e.op)) entries e acts to.made in
     let at_last : slice_get job.acts last ≡ Some (add_of 0) = ap (λ (xs : List Act). slice_get xs last) is.acts ∙ ap (slice_get (map add_of items ++ add_of 0 ∷ [])) is.last_is ∙ act_last items in

@@ -1,6 +1,6 @@
 -- What two additions of one job are told.
-use Rattle.std.proofs.Common.{◌≡◌, ◌≢◌, ℕ, zero, suc, ◌+◌, ◌<◌, ◌⊎◌, inl, inr, List, [], ◌∷◌, map, get_or, Option, None, Some, refl, sym, ap, ◌∙◌, subst, arith}
-use Rattle.std.specs.Prelude.{slice_get, slice_index_or}
+use Rattle.std.proofs.Common.{◌≡◌, ◌≢◌, ℕ, zero, suc, ◌+◌, ◌<◌, ◌⊎◌, inl, inr, List, [], ◌∷◌, map, None, Some, refl, sym, ap, ◌∙◌, subst, arith}
+use Rattle.std.specs.Prelude.{slice_get}
 use Rattle.std.specs.List.{AllByRecursion}
 use Rattle.seq_objects.specs.declared.act.Act.TheVariants.{Call}
 use Rattle.seq_objects.specs.declared.op.Op.{Op}
@@ -8,7 +8,7 @@ use Rattle.seq_objects.specs.declared.op.Op.TheVariants.{CounterAdd}
 use Rattle.seq_objects.specs.declared.reply.Reply.{Reply}
 use Rattle.seq_objects.specs.declared.reply.Reply.TheVariants.{Number}
 use Rattle.seq_objects.specs.Pairs.{AreDistinct}
-use Rattle.seq_objects.specs.Stores.{opening_store, store_after, store_reply}
+use Rattle.seq_objects.specs.Stores.{opening_store}
 use Rattle.seq_objects.proofs.Elements.{each_at, each_so}
 use Rattle.sp_order.specs.Jobs.{JobValue}
 use Rattle.sp_order.specs.Phases.{HasNoSources}
@@ -17,10 +17,12 @@ use Rattle.job_builder.specs.Drafts.{Draft, built, closed, nothing, opened, with
 use Rattle.job_builder.proofs.Unnamed.{acts_stay}
 use Rattle.batch_history.specs.Book.{IsLegalFrom}
 use Rattle.batch_history.specs.declared.batch.Entry.{Entry}
-use Rattle.serial_runs.specs.SerialRuns.{IsAsked, IsReplyTo, IsSerialRun}
+use Rattle.serial_runs.specs.SerialRuns.{IsReplyTo, IsSerialRun}
 use Rattle.job_uses.specs.Adds.{AddsTwo}
 use Rattle.job_uses.specs.Sums.{add_of}
+use Rattle.job_uses.proofs.Plain.{IsOwn, each_own}
 use Rattle.job_uses.proofs.SumReplies.{is_number}
+use Rattle.job_uses.proofs.TwoCalls.{in_one, replies, told_of, told_of_later}
 
 -- the job that is built
 abbrev pub two_adds : (a b : ℕ) → Draft
@@ -32,25 +34,11 @@ adds_two a b = record {
   plain = (refl, (refl, tt));
 }
 
--- in a job without sources a call is the one of its leaf's act
-
-none_at : (sources : List (Option ℕ)) (leaf : ℕ) → AllByRecursion (λ source. source ≡ None) sources → slice_index_or sources leaf None ≡ None
-none_at [] leaf all = refl
-none_at (source ∷ sources) zero all = all.0
-none_at (source ∷ sources) (suc leaf) all = none_at sources leaf all.1
-
-abbrev IsOwn : JobValue → Entry → Type 0
-IsOwn job call = slice_get job.acts call.leaf ≡ Some (Call call.op)
-
-each_own : (job : JobValue) (calls : List Entry) → HasNoSources job → IsSerialRun job calls → AllByRecursion (IsOwn job) calls
-each_own job calls plain run = each_so (IsAsked job calls) (IsOwn job)
-    (λ call asked. asked.act ∙ ap (λ op. Some (Call op)) (sym (asked.plain (none_at job.sources call.leaf plain)))) calls run.asked
-
 -- a leaf that adds is told a number
-pub told_number : (job : JobValue) (calls : List Entry) (leaf number : ℕ) (given : Reply) → HasNoSources job → slice_get job.acts leaf ≡ Some (add_of number)
-    → IsSerialRun job calls → IsReplyTo calls leaf given → (sum_is : ℕ) × (given ≡ Number sum_is)
-told_number job calls leaf number given plain adds run to =
-    let own = each_at (IsOwn job) calls to.call (each_own job calls plain run) to.made in
+pub told_number : (work : ℕ → ℕ) (job : JobValue) (calls : List Entry) (leaf number : ℕ) (given : Reply) → HasNoSources job → slice_get job.acts leaf ≡ Some (add_of number)
+    → IsSerialRun work job calls → IsReplyTo calls leaf given → (sum_is : ℕ) × (given ≡ Number sum_is)
+told_number work job calls leaf number given plain adds run to =
+    let own = each_at (IsOwn job) calls to.call (each_own work job calls plain run) to.made in
     let op : to.call.op ≡ CounterAdd 0 number = let also = ap (slice_get job.acts) to.of_leaf in cc in
     let is = is_number opening_store calls to.made.0 to.call number to.made.1 to.made.2 op run.replies in
     (_, sym to.replied ∙ is)
@@ -64,33 +52,6 @@ module _ (a b : ℕ) where
   added_at zero op is = inl (refl, cc)
   added_at (suc zero) op is = inr (refl, cc)
   added_at (suc (suc leaf)) op is = absurd cc
-
-  -- of two calls the one that is told
-
-  in_pair : (e f call : Entry) (k : ℕ) → k < 2 → get_or (e ∷ f ∷ []) k call ≡ call → (e ≡ call) ⊎ (f ≡ call)
-  in_pair e f call zero less is = inl is
-  in_pair e f call (suc zero) less is = inr is
-  in_pair e f call (suc (suc k)) less is = absurd (omega (arith, less))
-
-  told_of : (e f : Entry) (leaf : ℕ) (given : Reply) → e.leaf ≡ leaf → f.leaf ≢ leaf → IsReplyTo (e ∷ f ∷ []) leaf given → given ≡ e.reply
-  told_of e f leaf given own other to = elim (in_pair e f to.call to.made.0 to.made.1 to.made.2) [
-    | inl is ↦ sym to.replied ∙ ap (λ (call : Entry). call.reply) (sym is)
-    | inr is ↦ absurd (other (ap (λ (call : Entry). call.leaf) is ∙ to.of_leaf))
-  ]
-
-  told_of_later : (e f : Entry) (leaf : ℕ) (given : Reply) → e.leaf ≢ leaf → f.leaf ≡ leaf → IsReplyTo (e ∷ f ∷ []) leaf given → given ≡ f.reply
-  told_of_later e f leaf given other own to = elim (in_pair e f to.call to.made.0 to.made.1 to.made.2) [
-    | inl is ↦ absurd (other (ap (λ (call : Entry). call.leaf) is ∙ to.of_leaf))
-    | inr is ↦ sym to.replied ∙ ap (λ (call : Entry). call.reply) (sym is)
-  ]
-
-  -- what a counter replies to two additions
-  replies : (e f : Entry) (m n : ℕ) → e.op ≡ CounterAdd 0 m → f.op ≡ CounterAdd 0 n → IsLegalFrom opening_store (e ∷ f ∷ []) → (e.reply ≡ Number m) × (f.reply ≡ Number (m + n))
-  replies e f m n first second legal =
-      let alone : 0 + m ≡ m = omega arith in (
-        legal.0 ∙ ap (store_reply opening_store) first ∙ ap Number alone,
-        legal.1.0 ∙ (λ i. store_reply (store_after opening_store (first i)) (second i)) ∙ ap (λ k. Number (k + n)) alone,
-      )
 
   abbrev Told : Reply → Reply → Type 0
   Told x y = ((x ≡ Number a) × (y ≡ Number (a + b))) ⊎ ((x ≡ Number (a + b)) × (y ≡ Number b))
@@ -122,10 +83,6 @@ module _ (a b : ℕ) where
   no_three : (p q r : ℕ) → p < 2 → q < 2 → r < 2 → p ≢ q → p ≢ r → q ≢ r → ⊥
   no_three p q r one two three first second third = grind arith
 
-  in_one : (e call : Entry) (k : ℕ) → k < 1 → get_or (e ∷ []) k call ≡ call → e ≡ call
-  in_one e call zero less is = is
-  in_one e call (suc k) less is = absurd (omega (arith, less))
-
   told_in : (calls : List Entry) (x y : Reply) → AllByRecursion (λ (e : Entry). Adds e.leaf e.op) calls → AreDistinct (map (λ (e : Entry). e.leaf) calls)
       → IsLegalFrom opening_store calls → IsReplyTo calls 0 x → IsReplyTo calls 1 y → Told x y
   told_in [] x y adds distinct legal to_first to_second = let less = to_first.made.1 in absurd (omega (arith, less))
@@ -137,10 +94,10 @@ module _ (a b : ℕ) where
   told_in (e ∷ f ∷ g ∷ calls) x y adds distinct legal to_first to_second = absurd
       (no_three e.leaf f.leaf g.leaf (below e.leaf e.op adds.0) (below f.leaf f.op adds.1.0) (below g.leaf g.op adds.1.1.0) distinct.0.0 distinct.0.1.0 distinct.1.0.0)
 
-  told : (job : JobValue) (calls : List Entry) (x y : Reply) → AddsTwo a b job → IsSerialRun job calls → IsReplyTo calls 0 x → IsReplyTo calls 1 y → Told x y
-  told job calls x y is run to_first to_second =
+  told : (work : ℕ → ℕ) (job : JobValue) (calls : List Entry) (x y : Reply) → AddsTwo a b job → IsSerialRun work job calls → IsReplyTo calls 0 x → IsReplyTo calls 1 y → Told x y
+  told work job calls x y is run to_first to_second =
       let adds = each_so (IsOwn job) (λ (e : Entry). Adds e.leaf e.op) (λ (e : Entry) own. added_at e.leaf e.op (ap (λ acts. slice_get acts e.leaf) (sym is.acts) ∙ own)) calls
-      (each_own job calls is.plain run) in
+      (each_own work job calls is.plain run) in
       told_in calls x y adds run.each.distinct run.replies to_first to_second
 
   -- as the pair of the numbers
@@ -158,8 +115,8 @@ module _ (a b : ℕ) where
       let second : n ≡ b = let given = is.1 in cc in
       inr (λ i. (first i, second i))
 
-  pub told_sums : (job : JobValue) (calls : List Entry) (leaf other m n : ℕ) → AddsTwo a b job → IsSerialRun job calls → leaf ≡ 0 → other ≡ 1
+  pub told_sums : (work : ℕ → ℕ) (job : JobValue) (calls : List Entry) (leaf other m n : ℕ) → AddsTwo a b job → IsSerialRun work job calls → leaf ≡ 0 → other ≡ 1
       → IsReplyTo calls leaf (Number m) → IsReplyTo calls other (Number n) → AreSums (m, n)
-  told_sums job calls leaf other m n is run first second to_first to_second =
+  told_sums work job calls leaf other m n is run first second to_first to_second =
       are_sums m n
-      (told job calls (Number m) (Number n) is run (subst (λ u. IsReplyTo calls u (Number m)) first to_first) (subst (λ u. IsReplyTo calls u (Number n)) second to_second))
+      (told work job calls (Number m) (Number n) is run (subst (λ u. IsReplyTo calls u (Number m)) first to_first) (subst (λ u. IsReplyTo calls u (Number n)) second to_second))

@@ -1,7 +1,10 @@
 //! Each program, run once.
 ghost use Rattle.std.specs.Prelude.{◌≡◌, ◌<◌, ◌≤◌};
 
-use crate::{chunks_in_threads, grid_job, sum_in_threads, ticket_job, two_adds_in_threads};
+use crate::{
+    balance_in_threads, chunks_in_threads, grid_job, sum_in_threads, ticket_job,
+    two_adds_in_threads,
+};
 use job_builder::{BuildError, Builder, Order};
 use job_runs::run_by_turns;
 use seq_objects::{Op, Reply};
@@ -33,6 +36,45 @@ fn two_additions_are_told_their_sums(rt: HostRuntime) -> Result<(), Fail> {
         panic!(rt; "no memory")
     };
     assert!(rt; sums == (7, 12) || sums == (12, 5));
+    Ok(())
+}
+
+#[test]
+fn interest_is_paid_on_a_deposit(rt: HostRuntime) -> Result<(), Fail> {
+    let Ok(balance) = balance_in_threads(&rt, rt.alloc(), 250, 5, 2) else {
+        panic!(rt; "no memory")
+    };
+    assert!(rt; balance == 262);
+    Ok(())
+}
+
+#[test]
+fn a_call_takes_the_value_of_work(rt: HostRuntime) -> Result<(), Fail> {
+    let alloc = rt.alloc();
+    let mut job = Builder::new(alloc, 7);
+    let Ok(work) = job.work(3) else {
+        panic!(rt; "no memory")
+    };
+    assert!(rt; matches!(job.work_with(work), Err(BuildError::NotVisible)));
+    let Ok(_) = job.call_with(Op::CounterAdd(0, 0), work) else {
+        panic!(rt; "no memory")
+    };
+    let Ok(job) = job.finish() else {
+        panic!(rt; "no memory")
+    };
+    let Ok(ran) = run_by_turns(alloc, job, 2) else {
+        panic!(rt; "no memory")
+    };
+    let Some(row) = ran.report().rows.list().first() else {
+        panic!(rt; "no row")
+    };
+    let mut added = false;
+    for batch in ran.report().history.batches() {
+        for entry in batch.entries() {
+            added |= entry.reply == Reply::Number(row.value);
+        }
+    }
+    assert!(rt; added);
     Ok(())
 }
 

@@ -12,6 +12,7 @@ invariant-loop-chunk l = record {
   grown : HasGrown (opened (nothing 0) Parallel) l.job l.chunk;
   number : l.job.job ≡ 0;
   acts : l.job.acts ≡ map Work (range_with_len 0 l.chunk);
+  plain : AllByRecursion (λ source. source ≡ None) l.job.sources;
   unnamed : AllByRecursion (λ object. object ≡ None) l.job.objects;
   handles : l.leaves.items ≡ map (λ leaf. record { job = 0; leaf = leaf }) (range_with_len 0 l.chunk);
 }

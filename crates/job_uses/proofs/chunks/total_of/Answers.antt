@@ -3,7 +3,10 @@ use Rattle.std.specs.Prelude.{slice_get, sum}
 use Rattle.std.specs.Int.{div_ceil}
 use Rattle.leaf_handles.specs.Handles.{HandleValue}
 use Rattle.sp_order.specs.Jobs.{JobValue}
+use Rattle.job_results.specs.Results.{calls_of}
+use Rattle.job_uses.specs.Chunks.{chunk_of}
 use Rattle.job_uses.proofs.ChunkSums.{act_at, act_count, all_chunks, few_items, handle_at, handle_count, more_chunks}
+use Rattle.job_uses.proofs.Plain.{own_value}
 use Rattle.job_uses.proofs.chunks.total_of.Goals as goal
 
 pub value_of-total-requires : goal.value_of-total-requires
@@ -26,7 +29,9 @@ overflow_add-total c =
     let count = handle_count chunks c.args.leaves.now c.requires.chunks.handles in
     let less : c.loop-leaf.leaf-index < chunks = let inside = c.loop-leaf-test.true in omega (arith, count, inside) in
     let own = ap (λ (handle : HandleValue). handle.leaf) (c.leaf-item.is ∙ handle_at chunks c.loop-leaf.leaf-index c.args.leaves.now c.leaf-item.result c.requires.chunks.handles less) in
-    let value = c.value_of-total.ensures.work c.loop-leaf.leaf-index (ap (slice_get ran.job.acts) own ∙ act_at chunks c.loop-leaf.leaf-index ran.job.acts c.requires.chunks.acts less) in
+    let act = ap (slice_get ran.job.acts) own ∙ act_at chunks c.loop-leaf.leaf-index ran.job.acts c.requires.chunks.acts less in
+    let value = own_value (λ number. sum (chunk_of ran.work.width ran.work.items.now number)) ran.job (calls_of ran) c.leaf-item.result.leaf c.value_of-total.result c.loop-leaf.leaf-index
+    c.requires.chunks.plain act c.value_of-total.ensures.serial in
     let more = more_chunks ran.work.items.now ran.work.width c.loop-leaf.leaf-index in
     let few = few_items ran.work.items.now ((c.loop-leaf.leaf-index + 1) * ran.work.width) in
     let small = ran.work.small in
@@ -40,7 +45,9 @@ loop-leaf-preserved c =
     let count = handle_count chunks c.args.leaves.now c.requires.chunks.handles in
     let less : c.loop-leaf.leaf-index < chunks = let inside = c.loop-leaf-test.true in omega (arith, count, inside) in
     let own = ap (λ (handle : HandleValue). handle.leaf) (c.leaf-item.is ∙ handle_at chunks c.loop-leaf.leaf-index c.args.leaves.now c.leaf-item.result c.requires.chunks.handles less) in
-    let value = c.value_of-total.ensures.work c.loop-leaf.leaf-index (ap (slice_get ran.job.acts) own ∙ act_at chunks c.loop-leaf.leaf-index ran.job.acts c.requires.chunks.acts less) in
+    let act = ap (slice_get ran.job.acts) own ∙ act_at chunks c.loop-leaf.leaf-index ran.job.acts c.requires.chunks.acts less in
+    let value = own_value (λ number. sum (chunk_of ran.work.width ran.work.items.now number)) ran.job (calls_of ran) c.leaf-item.result.leaf c.value_of-total.result c.loop-leaf.leaf-index
+    c.requires.chunks.plain act c.value_of-total.ensures.serial in
     (λ i. c.loop-leaf.invariant i + value i) ∙ more_chunks ran.work.items.now ran.work.width c.loop-leaf.leaf-index
 
 pub returns : goal.returns

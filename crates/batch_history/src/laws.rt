@@ -22,7 +22,6 @@ ghost use Rattle.batch_history.specs.declared.batch.Entry.{Entry};
 ghost use Rattle.batch_history.specs.declared.report.Report.{Report};
 ghost use Rattle.batch_history.specs.Book.{flat, IsLegalFrom};
 ghost use Rattle.batch_history.specs.Operations.{op_from, value_from};
-ghost use Rattle.batch_history.specs.Places.{place_of};
 ghost use Rattle.batch_history.specs.Serving.{served, served_book, acts_in};
 ghost use Rattle.batch_history.specs.Lawful.{Lawful};
 ghost use Rattle.batch_history.specs.Filling.{StandsBefore, FindsIn};

@@ -1,8 +1,7 @@
 //! The check of a report against a job: both files are read, the report's after the job was accepted, and the words of
 //! its flaw are made.
-ghost use Rattle.std.specs.Prelude.{◌≡◌, ◌≤◌, List, ℕ, Err, IsSome, IfOk, IfErr, IsTrue, length};
+ghost use Rattle.std.specs.Prelude.{◌≡◌, ◌≤◌, Err, IsSome, IfOk, IfErr, IsTrue};
 ghost use Rattle.bt_io.specs.Causes.{Rose};
-ghost use Rattle.program_io.specs.Ends.{StopCause};
 ghost use Rattle.program_io.specs.Lines.{told_text};
 ghost use Rattle.program_io.specs.Reading.{WasRead};
 ghost use Rattle.sp_order.specs.Sources.{TakeReplies};

@@ -8,7 +8,7 @@ use Rattle.core_model.specs.Next.{next_act}
 use Rattle.core_model.specs.declared.next.Next.TheVariants as acts
 use Rattle.core_model.specs.Settings.{job_with}
 use Rattle.core_model.specs.Operations.{place_of, IsReceipt}
-use Rattle.core_model.specs.Words.{Entry, Op}
+use Rattle.core_model.specs.Words.{Entry}
 use Rattle.table_rule.specs.CoreWords.{Event, Receipt, Task, Claim, Start, Post, Win, Take, Publish, Answer, Release, Keep, End, ArriveFirst, ArriveSecond, Idle, Started, Out}
 use Rattle.core_model.specs.declared.setting.Setting.{Setting}
 use Rattle.table_rule.specs.declared.slot.OpRecord.{OpRecord}

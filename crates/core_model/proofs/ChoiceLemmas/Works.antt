@@ -1,5 +1,5 @@
 -- The next act that works: the leaf that it is for, and what this leaf computes.
-use Rattle.std.proofs.Common.{ℕ, ◌≡◌, Option, Some, None, List, refl, sym, ap, ◌∙◌}
+use Rattle.std.proofs.Common.{ℕ, ◌≡◌, Option, Some, None, refl, sym, ap, ◌∙◌}
 use Rattle.std.specs.Prelude.{unwrap_or}
 use Rattle.std.specs.Option.{option_map}
 use Rattle.core_model.proofs.Words.{Act, Work, Call, Kind, LeafNode, SeqNode, ParNode, Move, Root, OpenSecond, FinishParent, Arrive, Nodes, Task, Idle, Run, Half, Started, Kept, Ended, Whole, Handed, CallState, NotCalled, Out, Got, CoreJob, State}

@@ -3,8 +3,7 @@
 use Rattle.std.proofs.Common.{ℕ, ◌≡◌, ◌≢◌, ◌<◌, ◌≤◌, ◌⊎◌, ◌==◌, Bool, true, false, Option, Some, None, List, arith, refl, inl, inr, subst, sym, ◌∙◌, ap}
 use Rattle.std.proofs.lemmas.Bool.{cases_eq, cases_lt, false_from_ne_true}
 use Rattle.std.proofs.lemmas.Bool.Decides.{nat_tests}
-use Rattle.seq_objects.specs.Objects.{value_of}
-use Rattle.core_model.proofs.Words.{Act, Work, Call, Kind, LeafNode, SeqNode, ParNode, Nodes, IsPlan, Entry, Progress, Waiting, Ready, Taken, Done, Ran, Task, Idle, Started, Kept, Ended, Whole, Status, Free, Pending, Executing, Served, CallState, NotCalled, Out, Got, Receipt, CoreJob, State, CoreState, is_done, names, Event}
+use Rattle.core_model.proofs.Words.{Kind, LeafNode, SeqNode, ParNode, Nodes, IsPlan, Entry, Progress, Waiting, Ready, Taken, Done, Ran, Task, Idle, Started, Kept, Ended, Whole, Status, Free, Pending, Executing, Served, CallState, NotCalled, Out, Got, Receipt, CoreJob, State, CoreState, is_done, names, Event}
 use Rattle.sp_order.specs.Plans.{itself}
 use Rattle.core_model.specs.Operations.{IsLeaf, op_of, Place, place_of}
 use Rattle.core_model.specs.Choice.{least_below}
@@ -27,7 +26,6 @@ use Rattle.core_model.proofs.Inductive.Parts.{InductiveParts}
 use Rattle.core_model.proofs.Inductive.Lists.{stands_in, InductiveLists}
 use Rattle.core_model.proofs.ChoiceLemmas.Search.{least_is_chosen, no_least}
 use Rattle.batch_history.proofs.BookLemmas.Books.{found_in_book, place_below}
-use Rattle.core_model.proofs.BookLemmas.EntryPlaces.{entry_there}
 use Rattle.core_model.proofs.Inductive.PartsHold.{by_node, is_by, parts_stand}
 use Rattle.core_model.proofs.InvariantLemmas.EachEvent.{event_keeps}
 use Rattle.core_model.proofs.InvariantLemmas.ReadyLists.{lists_after, lists_fit}

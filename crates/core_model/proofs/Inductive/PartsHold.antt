@@ -1,16 +1,12 @@
 -- The inductive invariant of a state implies the parts of the invariant.
 use Rattle.std.proofs.Common.{ℕ, ◌≡◌, ◌≢◌, ◌<◌, ◌⊎◌, Bool, true, false, if◌then◌else◌, Option, Some, None, List, arith, refl, inl, inr, subst, sym, ◌∙◌, ap}
-use Rattle.std.specs.Prelude.{Contains}
-use Rattle.std.proofs.lemmas.List.Elements.{recursion_from_All, All-contains_itself}
-use Rattle.seq_objects.specs.Objects.{value_of}
 use Rattle.core_model.specs.Invariant.Values.{IsKept, ValuesInvariant}
 use Rattle.core_model.specs.Invariant.Statuses.{StatusesInvariant}
 use Rattle.core_model.specs.Invariant.Book.{BookInvariant}
 use Rattle.core_model.specs.Invariant.Membership.{IsBooked, MembershipInvariant}
 use Rattle.core_model.specs.Invariant.{Parts}
-use Rattle.core_model.proofs.Words.{Act, Work, Call, LeafNode, Nodes, Entry, Progress, Waiting, Ready, Taken, Done, Ran, Task, Started, Kept, Ended, Status, Free, Pending, Executing, Served, CallState, NotCalled, Out, Got, Receipt, CoreJob, State, is_done, names}
-use Rattle.batch_history.specs.Book.{flat}
-use Rattle.core_model.specs.Operations.{op_in, Place, place_of}
+use Rattle.core_model.proofs.Words.{LeafNode, Nodes, Entry, Progress, Waiting, Ready, Taken, Done, Ran, Task, Started, Kept, Ended, Status, Free, Pending, Executing, Served, CallState, NotCalled, Out, Got, Receipt, CoreJob, State, is_done, names}
+use Rattle.core_model.specs.Operations.{Place, place_of}
 use Rattle.core_model.specs.Invariant.Tasks.{TaskFits}
 use Rattle.core_model.specs.Invariant.Statuses.{IsAtCall, HasReceipt, is_taken_by}
 use Rattle.core_model.specs.Invariant.Hold.{is_published}
@@ -20,7 +16,6 @@ use Rattle.core_model.proofs.Inductive.Parts.{InductiveParts}
 use Rattle.core_model.proofs.Inductive.Stamps.{stamped, stamped_end}
 use Rattle.core_model.proofs.Inductive.TicksHold.{ticks_stand}
 use Rattle.core_model.proofs.Inductive.NodesHold.{nodes_stand, tasks_stand}
-use Rattle.batch_history.proofs.BookLemmas.Books.{found_in_book}
 use Rattle.core_model.proofs.InvariantLemmas.StatusRows.{call_out, executing_taken, taken_executing, idle_free}
 
 -- one worker's status and call

@@ -1,12 +1,12 @@
 -- Publishing keeps the inductive invariant.
-use Rattle.std.proofs.Common.{ℕ, ◌≡◌, ◌≢◌, ◌<◌, Bool, true, false, Option, Some, None, List, [], ◌∷◌, ◌++◌, length, map, arith, refl, inl, inr, subst, sym, ◌∙◌, ap}
+use Rattle.std.proofs.Common.{ℕ, ◌≡◌, ◌≢◌, ◌<◌, true, false, Option, Some, None, List, [], ◌∷◌, ◌++◌, length, map, arith, refl, inl, inr, subst, sym, ◌∙◌, ap}
 use Rattle.std.proofs.lemmas.List.{map-append}
 use Rattle.std.specs.List.{AllByRecursion}
-use Rattle.core_model.proofs.Words.{Act, Work, Call, LeafNode, IsPlan, Entry, Progress, Taken, Task, Started, Status, Executing, CallState, Out, Publish, CoreJob, Hold, State, names}
+use Rattle.core_model.proofs.Words.{LeafNode, IsPlan, Entry, Progress, Taken, Task, Started, Status, Executing, CallState, Out, Publish, CoreJob, Hold, State, names}
 use Rattle.seq_objects.specs.Stores.{opening_store}
 use Rattle.seq_objects.specs.Pairs.{AreDistinct}
 use Rattle.batch_history.specs.Book.{flat, IsBatch}
-use Rattle.core_model.specs.Operations.{leaf_of, op_in, op_of, Place, place_in, or_else, place_of}
+use Rattle.core_model.specs.Operations.{leaf_of, op_of, Place, place_in, place_of}
 use Rattle.core_model.specs.Serving.{served}
 use Rattle.core_model.specs.Invariant.Tasks.{TaskFits}
 use Rattle.core_model.specs.Events.{has_taken, Needs, published, IsTakenCall, IsBatchOf}

@@ -9,7 +9,6 @@ use Rattle.core_model.specs.Serving.{served}
 use Rattle.core_model.specs.Events.{Needs, Does}
 use Rattle.core_model.proofs.Inductive.Parts.{InductiveParts}
 use Rattle.core_model.specs.Choice.{choice_by, choice}
-use Rattle.core_model.specs.Invariant.ReadyLists.{ReadyListsInvariant}
 use Rattle.core_model.specs.Measure.{total, measure, node_cost, worker_cost, leaf_cost, first_cost, call_cost, one_if, one_if_call, call_count}
 use Rattle.core_model.proofs.ChoiceLemmas.Ready.{not_under}
 use Rattle.core_model.proofs.MeasureLemmas.Jobs.{claim_lowers, start_lowers, open_right_lowers, open_left_lowers, open_first_lowers, open_second_lowers, end_lowers, arrive_first_lowers, arrive_second_lowers, finish_leaf_lowers, finish_seq_lowers, finish_par_lowers}

@@ -8,7 +8,7 @@ use Rattle.core_model.specs.Measure.{measure, call_count}
 use Rattle.core_model.specs.Runs.{IsStep, Step, TurnsReach}
 use Rattle.core_model.proofs.InvariantLemmas.EachEvent.{event_keeps}
 use Rattle.core_model.proofs.InvariantLemmas.Opening.{opening_kept}
-use Rattle.core_model.proofs.InvariantLemmas.ReadyLists.{opening_lists, lists_after, lists_fit}
+use Rattle.core_model.proofs.InvariantLemmas.ReadyLists.{opening_lists, lists_after}
 use Rattle.core_model.proofs.MeasureLemmas.Lowers.{turn_lowers, opening_fuel}
 
 -- the inductive invariant of a state and of its lists stays from step to step

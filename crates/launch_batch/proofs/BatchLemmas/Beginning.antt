@@ -1,6 +1,6 @@
 -- The facts at the opening of a batch.
-use Rattle.std.proofs.Common.{ℕ, ◌≡◌, ◌==◌, ◌≤◌, ◌<◌, ◌+◌, ◌*◌, ◌^◌, List, [], length, map, None, refl, ap, sym, subst, ◌∙◌, arith, append-nil}
-use Rattle.launch_batch.proofs.Words.{AllByRecursion, Call, number_of, AreDistinct, Kind, Counter, Stack, Tree, Queue, AreInBatchOrder, AreOneBatch, kind_of, same_kind, calls_of, calls_at, of_counter, Entry, flat, MayServe, ArePermutations, IsNarrow, Members, Objects, Reply, opening, alone, served_book, BatchContext, store_of_kind, MatchesHistory, PieceIn}
+use Rattle.std.proofs.Common.{ℕ, ◌≡◌, ◌==◌, ◌<◌, ◌+◌, List, [], length, map, None, refl, ap, sym, subst, ◌∙◌, arith, append-nil}
+use Rattle.launch_batch.proofs.Words.{AllByRecursion, Call, number_of, AreDistinct, Kind, Counter, Stack, Tree, Queue, AreInBatchOrder, AreOneBatch, kind_of, same_kind, calls_of, calls_at, of_counter, Entry, MayServe, ArePermutations, IsNarrow, Members, Objects, Reply, opening, alone, served_book, BatchContext, store_of_kind, MatchesHistory, PieceIn}
 use Rattle.seq_objects.specs.Batches.{AreOf}
 use Rattle.seq_objects.proofs.Filters.{are_of}
 use Rattle.object_rows.specs.declared.row.Row.{Row}

@@ -11,7 +11,6 @@ use Rattle.core_model.specs.declared.progress.Progress.{Progress}
 use Rattle.core_model.specs.declared.progress.Progress.TheVariants.{Done, Ran}
 use Rattle.core_model.specs.declared.status.Status.{Status}
 use Rattle.core_model.specs.declared.status.Status.TheVariants.{Free}
-use Rattle.seq_objects.specs.Objects.{value_of}
 use Rattle.sp_order.specs.declared.node.Kind.TheVariants.{LeafNode}
 use Rattle.core_model.specs.declared.task.Task.TheVariants.{Started}
 use Rattle.core_model.specs.State.{CoreJob, State}

@@ -3,9 +3,8 @@
 use Rattle.std.proofs.Common.{ℕ, ◌≡◌, ◌⊎◌, Option as Maybe, None, Some, List, inl, inr, refl, sym, ap, ◌∙◌}
 use Rattle.std.specs.Option.{option_map}
 use Rattle.seq_objects.specs.declared.act.Act.{Act}
-use Rattle.seq_objects.specs.declared.act.Act.TheVariants.{Work, Call}
 use Rattle.seq_objects.specs.declared.op.Op.{Op}
-use Rattle.sp_order.specs.Sources.{low_bits, with_value}
+use Rattle.sp_order.specs.Sources.{low_bits}
 use Rattle.sp_order.specs.declared.node.Kind.TheVariants.{LeafNode}
 use Rattle.batch_history.specs.declared.batch.Entry.{Entry}
 use Rattle.core_model.specs.declared.status.CallState.{CallState}

@@ -1,10 +1,8 @@
 use Rattle.std.proofs.Common.{ℕ, ◌≡◌, ◌≤◌, Some, refl, sym, subst, ◌∙◌}
 use Rattle.sp_order.specs.declared.node.Kind.TheVariants.{LeafNode}
-use Rattle.core_model.specs.Operations.{leaf_of}
-use Rattle.core_model.specs.Events.{value_in}
 use Rattle.core_model.specs.declared.next.Next.TheVariants as acts
 use Rattle.table_rule.proofs.StepLemmas.Sides.{started_in}
-use Rattle.table_rule.proofs.StepLemmas.NextActs.{keeps_at, may_keep, may_post, next_stands}
+use Rattle.table_rule.proofs.StepLemmas.NextActs.{keeps_at, may_keep, may_post}
 use Rattle.core_model.specs.Settings.{job_with}
 use Rattle.core_table.proofs.PassLemmas.PassKept.{known_with, room_with}
 use Rattle.table_rule.specs.Shows.{room_of}

@@ -1,5 +1,5 @@
 use Rattle.core_model.specs.Settings.{job_with}
-use Rattle.std.proofs.Common.{◌≡◌, ℕ, ◌<◌, subst, sym, ◌∙◌, arith, Some, refl}
+use Rattle.std.proofs.Common.{◌<◌, ◌∙◌, arith, refl}
 use Rattle.table_rule.specs.Shows.{room_of}
 use Rattle.table_rule.proofs.StepLemmas.Sides.{started_in}
 use Rattle.table_rule.proofs.StepLemmas.NextActs.{keeps_at, may_keep}

@@ -67,7 +67,6 @@ pub record HasValuesWith (meaning : ℕ → ℕ) (job : JobValue) (report : Repo
       → ForSome (slice_get report.rows leaf) (λ row. value_from meaning report.history (Work steps) (source_of job leaf) leaf ≡ Some row.value)
   pub calls : AllByRecursion (λ entry. ForSome (slice_get report.rows entry.leaf) (λ row. row.value ≡ value_of entry.reply)) (flat report.history)
 
-
 -- the same where they spin
 abbrev pub HasValues : JobValue → Report → Type 0
 HasValues = HasValuesWith spin_of

@@ -47,7 +47,6 @@ impl<W: LeafWork> Model for RanWith<W> {
 }
 
 impl<W: LeafWork> RanWith<W> {
-
     /// The results of a job with this report, whose leaves of work did this work. Memory: none.
     pub fn of(job: Job, report: Report, work: &W) -> RanWith<W>
         requires { LawfulWith (W.meaning work.now) job report.workers report }

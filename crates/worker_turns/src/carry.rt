@@ -22,12 +22,7 @@ use std::sync::Wait;
 use worker_crew::{Crew, Me, Stop};
 
 /// The number of the due work: that of its act; where the leaf has a source, the low 32 bits of the source's value.
-fn number_due<B: WorkBrand>(
-    table: &CoreTable<B>,
-    pass: &mut Pass,
-    leaf: u32,
-    steps: u32,
-) -> u32
+fn number_due<B: WorkBrand>(table: &CoreTable<B>, pass: &mut Pass, leaf: u32, steps: u32) -> u32
     requires pass { IsPassOf table.now pass.old }
     requires due { (n : ℕ) × (start : ℕ) × (next_in table.now (pass_view pass.old) ≡ Some (acts.Spin n start leaf steps)) }
     ensures pass { IsPassOf table.now pass.new }

@@ -42,9 +42,9 @@ pub work_valued : (job : CoreJob) (s : State) → HasSources job → InductivePa
     → job.plan.kind n ≡ Some (LeafNode leaf) → job.act leaf ≡ Work steps → (v : ℕ) × (value_under job s.book leaf ≡ Some v)
 work_valued job s sources h w n start leaf steps is kind act =
     work_value job s.book leaf steps act (λ source of.
-        let at = sources n leaf source kind of in
-        let value = source_valued job s sources h w n start leaf source is kind of in
-        (at.calls (ap op_in act), (value.value, value.under)))
+    let at = sources n leaf source kind of in
+    let value = source_valued job s sources h w n start leaf source is kind of in
+    (at.calls (ap op_in act), (value.value, value.under)))
 
 -- the entry of a leaf with a source has the value of the source as its argument
 pub source_argument : (job : CoreJob) (s : State) (leaf source : ℕ) (later : Place) → Parts job s → job.source leaf ≡ Some source → place_of s.book leaf ≡ Some later

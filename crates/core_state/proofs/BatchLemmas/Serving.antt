@@ -11,11 +11,11 @@ use Rattle.batch_history.specs.Serving.{call_in, calls_in}
 use Rattle.launch_batch.specs.Calls.{MayServe}
 use Rattle.launch_batch.proofs.ListLemmas.Elements.{apart_turned}
 use Rattle.core_model.proofs.Words.{IsPlan, Entry, CoreJob, Hold, State}
-use Rattle.core_model.specs.Operations.{IsCall, op_in}
+use Rattle.core_model.specs.Operations.{IsCall}
 use Rattle.core_model.specs.Events.{IsTakenCall}
 use Rattle.core_model.specs.Batches.{IsCallOf, AreTakenCalls}
 use Rattle.core_model.proofs.Inductive.Parts.{InductiveParts}
-use Rattle.batch_history.proofs.ActLemmas.{from_calls}
+use Rattle.core_model.proofs.BookLemmas.Operations.{is_call}
 use Rattle.batch_history.proofs.BookLemmas.Books.{flat_append}
 use Rattle.core_model.proofs.BookLemmas.Room.{distinct_few, leaves_call}
 use Rattle.core_model.proofs.InvariantLemmas.Publish.{leaves_apart}
@@ -64,7 +64,7 @@ module _ (job : CoreJob) (s : State) (hd : Hold) (laws : IsPlan job.plan) (h : I
   all_call : AllByRecursion (λ (e : Entry). IsCall job e.leaf) (flat s.book ++ entries)
   all_call =
       each_append (λ (e : Entry). IsCall job e.leaf) (flat s.book) entries (leaves_call job s h)
-      (each_so (IsTakenCall job s) (λ (e : Entry). IsCall job e.leaf) (λ e call. from_calls s.book (op_in (job.act e.leaf)) (job.source e.leaf) e.op call.operation) entries only)
+      (each_so (IsTakenCall job s) (λ (e : Entry). IsCall job e.leaf) (λ e call. is_call job s.book e.leaf e.op call.operation) entries only)
 
   -- so the book and the taken calls together number at most the calling leaves
   few : (most : ℕ) → ((leaf : ℕ) → IsCall job leaf → leaf < most) → length (flat s.book) + length calls ≤ most

@@ -22,7 +22,7 @@ node_of-requires g c =
     let source = c.source_due-source.result in
     let tree = job_tree self.setting.job in
     let low : LeafIn (leaves tree) (Some (LeafNode source)) = rw (laws.sources n leaf source kind from).stands at
-        (leaves_in (nodes_of tree) tree (leaves tree) (c.plan_stands_for_tree.ensures tree) refl ((nodes_of tree).node_of source)) in
+    (leaves_in (nodes_of tree) tree (leaves tree) (c.plan_stands_for_tree.ensures tree) refl ((nodes_of tree).node_of source)) in
     low
 
 pub load-requires : goal.load-requires

@@ -191,7 +191,7 @@ impl Builder {
         }
     }
 
-    /// Adds a leaf that works on the reply of an earlier call: its number is the low 32 bits of the value of that reply.
+    /// Adds a leaf that works on the reply of an earlier call: its number is the low 32 bits of the reply's value.
     pub fn work_with(&mut self, used: Handle) -> Result<Handle, BuildError>
         ensures ok { OnOk result (self.new ≡ with_leaf self.old (acts.Work 0) (Some used.leaf) None) }
         ensures handle { IfOk result (λ handle. handle ≡ next_handle self.old) }

@@ -1,5 +1,5 @@
-//! Interest on an account, whose balance is a counter: a leaf of work finds the interest on the balance that a deposit is
-//! told, and a later call pays it in.
+//! Interest on an account, whose balance is a counter: a leaf of work finds the interest on the balance that a deposit
+//! is told, and a later call pays it in.
 ghost use Rattle.std.specs.Prelude.{◌≡◌, ◌+◌, ◌*◌, ◌/◌, ◌<◌, ◌≤◌, IfErr, IfOk};
 ghost use Rattle.job_builder.specs.declared.error.BuildError.TheVariants.{Memory};
 ghost use Rattle.job_uses.specs.Interest.{PaysInterest, interest_on};

@@ -2,8 +2,8 @@
 //!
 //! `adds` makes two additions in threads. `sums` adds the items of a slice on one counter, chunk by chunk, in threads;
 //! in `chunks` each leaf adds up a chunk by itself. In `interest` a leaf works on the reply of a call, and a later call
-//! takes what it finds. `tickets` has customers who draw a ticket each and wait with it in a queue. `grids` builds a large
-//! job in loops.
+//! takes what it finds. `tickets` has customers who draw a ticket each and wait with it in a queue. `grids` builds a
+//! large job in loops.
 #![tactic(auto)]
 
 pub mod adds;

@@ -28,8 +28,8 @@ pub record WorksOn (job : JobValue) (calls : List Entry) (leaf own number : ℕ)
   pub sourced : (source : ℕ) → source_of job leaf ≡ Some source
       → (reply : Reply) × IsReplyTo calls source reply × (number ≡ low_bits (value_of reply))
 
--- The leaf has this value: a leaf of work has what `work` computes of the number that it works on, and a leaf that calls
--- has the value of its reply.
+-- The leaf has this value: a leaf of work has what `work` computes of the number that it works on, and a leaf that
+-- calls has the value of its reply.
 pub record HasValue (work : ℕ → ℕ) (job : JobValue) (calls : List Entry) (leaf value : ℕ) : Type 0 where
   pub works : (own : ℕ) → slice_get job.acts leaf ≡ Some (Work own)
       → (number : ℕ) × WorksOn job calls leaf own number × (value ≡ work number)
@@ -44,9 +44,9 @@ pub record IsAsked (work : ℕ → ℕ) (job : JobValue) (calls : List Entry) (c
   pub sourced : (source : ℕ) → source_of job call.leaf ≡ Some source
       → (value : ℕ) × HasValue work job calls source value × (call.op ≡ with_value op value)
 
--- The calls are the job's, where its leaves of work compute `work`, each as if it stood alone: each leaf that calls makes
--- one call, the one that it asks for; no call is made before one whose leaf precedes its own in the job; and each reply
--- is that of the serial objects at this point, which begin empty.
+-- The calls are the job's, where its leaves of work compute `work`, each as if it stood alone: each leaf that calls
+-- makes one call, the one that it asks for; no call is made before one whose leaf precedes its own in the job; and each
+-- reply is that of the serial objects at this point, which begin empty.
 pub record IsSerialRun (work : ℕ → ℕ) (job : JobValue) (calls : List Entry) : Type 0 where
   pub each : IsEnumerationOf (IsCallLeaf job.acts) (map (λ call. call.leaf) calls)
   pub asked : AllByRecursion (IsAsked work job calls) calls

@@ -63,4 +63,4 @@ pub makes_none : {work : ℕ → ℕ} (job : JobValue) (workers : ℕ) (old : St
     → RepInvariant work job workers old → w < workers → choice (core_job_with work job workers) (core_state_of old) w ≡ None
     → IsTurnResult Idle (core_job_with work job workers) (core_state_of old) w (core_state_of old)
 makes_none {work} job workers old w h below none =
-    (refl, λ event next is. none_has_no_event (core_job_with work job workers) (core_state_of old) w h.laws below (kept_parts job workers old h) h.inv.lists none event is.happens.needs)
+    (refl, λ event next is. none_has_no_event (core_job_with work job workers) (core_state_of old) w h.laws h.sources below (kept_parts job workers old h) h.inv.lists none event is.happens.needs)

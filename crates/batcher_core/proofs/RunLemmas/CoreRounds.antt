@@ -16,7 +16,7 @@ pub round_fewer : {work : ℕ → ℕ} (first core next : CoreView) (workers rob
     → turns_left (job_in_with work first) (state_in next) ((robin + 1) % workers) < turns_left (job_in_with work first) (state_in core) robin
 round_fewer {work} first core next workers robin same fits plan all below more unspent turn =
     let few = same.1 in
-    let fewer = turns_fewer (job_in_with work core) (job_tree core.job) (state_in core) (state_in next) robin fits.laws plan (kept_parts core.job core.workers core.table fits) fits.inv.lists (omega (arith, below, all, few)) (goes_on _ _ more unspent) turn in
+    let fewer = turns_fewer (job_in_with work core) (job_tree core.job) (state_in core) (state_in next) robin fits.laws fits.sources plan (kept_parts core.job core.workers core.table fits) fits.inv.lists (omega (arith, below, all, few)) (goes_on _ _ more unspent) turn in
     let first_fewer : turns_left (job_in_with work first) (state_in next) ((robin + 1) % first.workers) < turns_left (job_in_with work first) (state_in core) robin =
     subst (λ (job : CoreJob). turns_left job (state_in next) ((robin + 1) % job.workers) < turns_left job (state_in core) robin) (job_same work first core same) fewer in
     subst (λ (n : ℕ). turns_left (job_in_with work first) (state_in next) ((robin + 1) % n) < turns_left (job_in_with work first) (state_in core) robin) (sym all) first_fewer

@@ -9,6 +9,7 @@ use Rattle.core_model.specs.Choice.{choice}
 use Rattle.core_state.specs.Code.Representation.{RepInvariant}
 use Rattle.batcher_core.specs.Cores.{CoreView, job_in_with, state_in, is_over_in}
 use Rattle.core_model.specs.Invariant.{Invariant}
+use Rattle.core_model.specs.LeafSources.{HasSources}
 use Rattle.core_model.specs.Measure.{measure}
 use Rattle.core_model.specs.Runs.{IsTurnOf, IsTurn}
 use Rattle.core_model.specs.Stopped.{NoLiveEvent, LiveDrive, over, stuck, by_live, past_stopped}
@@ -44,7 +45,7 @@ module _ (job : CoreJob) (s new : CoreState) (w : ℕ) (laws : IsPlan job.plan) 
   lowers_by : (o : Option Event) → choice job s w ≡ o → IsTurnOf job s w o new → Lowers job s new (is_some o)
   lowers_by None chosen turn = (rw turn (omega arith), λ moved. absurd cc)
   lowers_by (Some event) chosen turn =
-      let less = turn_lowers job s w event new.state laws below (parts_carried job s.state h.parts) h.lists chosen turn.happens.does in
+      let less = turn_lowers job s w event new.state laws below (parts_carried job s.state h.parts) chosen turn.happens.needs turn.happens.does in
       (omega (arith, less), λ moved. less)
 
   pub turn_lowers_or_not : IsTurn job s w new → (moved : Bool) → moved ≡ is_some (choice job s w) → Lowers job s new moved
@@ -64,17 +65,17 @@ abbrev pub RestBelow : CoreJob → (ℕ → Bool) → CoreState → ℕ → Type
 RestBelow job live s i = (v : ℕ) → v < i → live v ≡ true → choice job s v ≡ None
 
 -- so after a round without an event, no live worker can make one
-pub none_live : (job : CoreJob) (live : ℕ → Bool) (s : CoreState) → IsPlan job.plan → Invariant job s → RestBelow job live s job.workers → NoLiveEvent job live s
-none_live job live s laws h rest w on event next step =
+pub none_live : (job : CoreJob) (live : ℕ → Bool) (s : CoreState) → IsPlan job.plan → HasSources job → Invariant job s → RestBelow job live s job.workers → NoLiveEvent job live s
+none_live job live s laws sources h rest w on event next step =
     let among = step.happens.worker_in in
-    none_has_no_event job s w laws among (parts_carried job s.state h.parts) h.lists (rest w among on) event step.happens.needs
+    none_has_no_event job s w laws sources among (parts_carried job s.state h.parts) h.lists (rest w among on) event step.happens.needs
 
 -- the whole round, without an event
 pub round_rests : {work : ℕ → ℕ} (first core : CoreView) (live : ℕ → Bool) (i : ℕ) → SameJob first core → RepInvariant work core.job core.workers core.table → i ≡ first.workers
     → RestBelow (job_in_with work first) live (state_in core) i → NoLiveEvent (job_in_with work first) live (state_in core)
 round_rests {work} first core live i same fits end rest =
     let job = job_same work first core same in
-    none_live (job_in_with work first) live (state_in core) (subst (λ (j : CoreJob). IsPlan j.plan) job fits.laws) (subst (λ (j : CoreJob). Invariant j (state_in core)) job fits.inv)
+    none_live (job_in_with work first) live (state_in core) (subst (λ (j : CoreJob). IsPlan j.plan) job fits.laws) (subst HasSources job fits.sources) (subst (λ (j : CoreJob). Invariant j (state_in core)) job fits.inv)
     (subst (RestBelow (job_in_with work first) live (state_in core)) end rest)
 
 -- one more stopped worker is passed over

@@ -1,4 +1,6 @@
 //! Rows of texts, each with what is told of it.
+ghost use Rattle.sp_order.specs.Sources.{TakeReplies};
+
 use job_lang::read_job;
 use job_writer::write_job;
 use limits::{MOST_JOB_BYTES, MOST_OPEN_BLOCKS};
@@ -22,8 +24,9 @@ pub(crate) type LongRow = (
 
 /// What a test tells of a job.
 pub(crate) trait Telling {
-    /// What it tells of this job.
-    fn tell(alloc: Global, job: &Job) -> Result<Vec<u8>, AllocError>;
+    /// What it tells of this job, whose leaves take replies alone.
+    fn tell(alloc: Global, job: &Job) -> Result<Vec<u8>, AllocError>
+        requires { TakeReplies job.now.acts job.now.sources };
 }
 
 /// The canonical text of a job that is at most 32 deep.

@@ -11,7 +11,7 @@ ghost use Rattle.core_state.specs.WorkDue.{work_due};
 
 use crate::state::State;
 use core_model::laws::book::started_leaf_has_its_source;
-use core_model::{Event, Next, Setting};
+use core_model::{Event, Next, Setting, Task};
 use leaf_work::WorkBrand;
 use seq_objects::value;
 use sp_order::low_bits;
@@ -138,7 +138,26 @@ impl State {
         }
     }
 
-    /// The number of the leaf that the worker has started, if that leaf works rather than calls.
+    /// The number of the leaf that the worker's task has started, if that leaf works rather than calls.
+    #[tactic(auto, unfolding(crate::specs::Abstraction::state_of))]
+    fn work_started<B: WorkBrand>(&self, setting: &Setting, worker: u32, task: Task) -> Option<u32>
+        requires fits { Represents B.work setting.now self.now }
+        requires looks { CanChoose setting.now self.now }
+        requires worker_in { worker < setting.now.workers }
+        requires task { (state_of self.now).task worker ≡ task }
+        ensures { result ≡ work_due (job_of setting.now) (state_of self.now).book
+            task ((state_of self.now).call worker) }
+    {
+        match setting.next(task, self.calls[worker as usize]) {
+            Some(Next::Spin { leaf, steps, .. }) => {
+                Some(self.number_of::<B>(setting, leaf, steps))
+            }
+            _ => None,
+        }
+    }
+
+    /// The number of the work that is due for a worker, if some is.
+    #[inline(always)]
     #[tactic(auto, unfolding(crate::specs::Abstraction::state_of))]
     pub fn work_due<B: WorkBrand>(&self, setting: &Setting, worker: u32) -> Option<u32>
         requires fits { Represents B.work setting.now self.now }
@@ -147,10 +166,9 @@ impl State {
         ensures { result ≡ work_due (job_of setting.now) (state_of self.now).book
             ((state_of self.now).task worker) ((state_of self.now).call worker) }
     {
-        match setting.next(self.tasks[worker as usize], self.calls[worker as usize]) {
-            Some(Next::Spin { leaf, steps, .. }) => {
-                Some(self.number_of::<B>(setting, leaf, steps))
-            }
+        let task = self.tasks[worker as usize];
+        match task {
+            Task::Started { .. } => self.work_started::<B>(setting, worker, task),
             _ => None,
         }
     }

@@ -4,7 +4,7 @@ ghost use Rattle.batch_history.specs.Lawful.{LawfulWith};
 ghost use Rattle.batch_history.specs.Places.{place_of as place_in_book};
 ghost use Rattle.batch_history.specs.Text.{report_text};
 ghost use Rattle.job_results.specs.Results.{calls_of, value_in};
-ghost use Rattle.serial_runs.specs.SerialRuns.{HasValue, IsReplyTo, IsSerialRun};
+ghost use Rattle.serial_runs.specs.SerialRuns.{HasValue, IsReplyTo, IsSerialRunWith};
 ghost use Rattle.sp_order.specs.Precedence.{leaf_count};
 ghost use Rattle.sp_order.specs.Sources.{IsCallLeaf};
 
@@ -77,7 +77,7 @@ impl<W: LeafWork> RanWith<W> {
 
     /// The calls are a serial run of the job's. It does nothing.
     pub fn is_serial(&self)
-        ensures { IsSerialRun (W.meaning self.now.work) self.now.job (calls_of self.now) }
+        ensures { IsSerialRunWith (W.meaning self.now.work) self.now.job (calls_of self.now) }
     {
         lawful_reports_with_work_are_serial();
         let _report = &self.report;

@@ -4,7 +4,6 @@ ghost use Rattle.batch_history.specs.Lawful.{Lawful};
 ghost use Rattle.core_model.specs.Reports.{IsDrivenReport, IsRunReport};
 ghost use Rattle.job_results.specs.Results.{calls_of};
 ghost use Rattle.limits.specs.declared.TheConstants.{MOST_WORKERS};
-ghost use Rattle.seq_objects.specs.Spin.{spin_of};
 ghost use Rattle.serial_runs.specs.SerialRuns.{IsSerialRun};
 
 use crate::runs_with::{run_by_turns_with, run_in_threads_with};
@@ -23,7 +22,7 @@ pub fn run_by_turns(alloc: Global, job: Job, workers: u32) -> Result<Ran, AllocE
     ensures driven { IfOk result (λ ran. IsDrivenReport job workers [] ran.report) }
     ensures run { IfOk result (λ ran. IsRunReport job workers ran.report) }
     ensures lawful { IfOk result (λ ran. Lawful job workers ran.report) }
-    ensures serial { IfOk result (λ ran. IsSerialRun spin_of job (calls_of ran)) }
+    ensures serial { IfOk result (λ ran. IsSerialRun job (calls_of ran)) }
 {
     run_by_turns_with(alloc, job, workers, &Spin)
 }
@@ -40,7 +39,7 @@ pub fn run_in_threads<R: Threads + Wait + Sync>(
     ensures job { IfOk result (λ ran. ran.job ≡ job) }
     ensures run { IfOk result (λ ran. IsRunReport job workers ran.report) }
     ensures lawful { IfOk result (λ ran. Lawful job workers ran.report) }
-    ensures serial { IfOk result (λ ran. IsSerialRun spin_of job (calls_of ran)) }
+    ensures serial { IfOk result (λ ran. IsSerialRun job (calls_of ran)) }
 {
     run_in_threads_with(rt, alloc, job, workers, &Spin)
 }

@@ -4,7 +4,7 @@ ghost use Rattle.batch_history.specs.Lawful.{LawfulWith};
 ghost use Rattle.core_model.specs.Reports.{IsDrivenReportWith, IsRunReportWith};
 ghost use Rattle.job_results.specs.Results.{calls_of};
 ghost use Rattle.limits.specs.declared.TheConstants.{MOST_WORKERS};
-ghost use Rattle.serial_runs.specs.SerialRuns.{IsSerialRun};
+ghost use Rattle.serial_runs.specs.SerialRuns.{IsSerialRunWith};
 
 use batcher_core::turns;
 use job_results::RanWith;
@@ -31,7 +31,7 @@ pub fn run_by_turns_with<W: LeafWork>(
         (λ ran. IsDrivenReportWith (W.meaning work.now) job workers [] ran.report) }
     ensures run { IfOk result (λ ran. IsRunReportWith (W.meaning work.now) job workers ran.report) }
     ensures lawful { IfOk result (λ ran. LawfulWith (W.meaning work.now) job workers ran.report) }
-    ensures serial { IfOk result (λ ran. IsSerialRun (W.meaning work.now) job (calls_of ran)) }
+    ensures serial { IfOk result (λ ran. IsSerialRunWith (W.meaning work.now) job (calls_of ran)) }
 {
     lawful_reports_with_work_are_serial();
     let report = turns::run_by_turns_with(alloc, &job, workers, work, &[])?;
@@ -52,7 +52,7 @@ pub fn run_in_threads_with<R: Threads + Wait + Sync, W: LeafWork + Sync>(
     ensures work { IfOk result (λ ran. ran.work ≡ work.now) }
     ensures run { IfOk result (λ ran. IsRunReportWith (W.meaning work.now) job workers ran.report) }
     ensures lawful { IfOk result (λ ran. LawfulWith (W.meaning work.now) job workers ran.report) }
-    ensures serial { IfOk result (λ ran. IsSerialRun (W.meaning work.now) job (calls_of ran)) }
+    ensures serial { IfOk result (λ ran. IsSerialRunWith (W.meaning work.now) job (calls_of ran)) }
 {
     lawful_reports_with_work_are_serial();
     let report = run_table_with(rt, alloc, &job, workers, work)?;

@@ -15,7 +15,7 @@ use Rattle.sp_order.specs.Sources.{low_bits, with_value}
 use Rattle.batch_history.specs.Book.{IsLegalFrom}
 use Rattle.batch_history.specs.Operations.{source_of}
 use Rattle.batch_history.specs.declared.batch.Entry.{Entry}
-use Rattle.serial_runs.specs.SerialRuns.{HasValue, IsAsked, IsReplyTo, IsSerialRun}
+use Rattle.serial_runs.specs.SerialRuns.{HasValue, IsAsked, IsReplyTo, IsSerialRunWith}
 use Rattle.job_uses.specs.Interest.{PaysInterest, interest_on}
 use Rattle.job_uses.specs.Sums.{add_of}
 use Rattle.job_uses.proofs.TwoCalls.{in_one, replies, told_of, told_of_later}
@@ -98,7 +98,7 @@ module _ (deposit : ℕ) (small : deposit < 2 ^ 32) (work : ℕ → ℕ) (job : 
       told_of_later e f 2 given (λ at. let own = p.0 in absurd (omega (arith, at, own))) q.0 to ∙ are.1 ∙ ap (λ v. Number (deposit + low_bits v)) value
 
   -- what the third leaf is told
-  pub paid : (calls : List Entry) (given : Reply) → IsSerialRun work job calls → IsReplyTo calls 2 given → IsPaid given
+  pub paid : (calls : List Entry) (given : Reply) → IsSerialRunWith work job calls → IsReplyTo calls 2 given → IsPaid given
   paid [] given run to = let less = to.made.1 in absurd (omega (arith, less))
   paid (e ∷ []) given run to =
       let last = ap (λ (call : Entry). call.leaf) (in_one e to.call to.made.0 to.made.1 to.made.2) ∙ to.of_leaf in

@@ -7,7 +7,7 @@ use Rattle.seq_objects.proofs.Elements.{each_so}
 use Rattle.sp_order.specs.Jobs.{JobValue}
 use Rattle.sp_order.specs.Phases.{HasNoSources}
 use Rattle.batch_history.specs.declared.batch.Entry.{Entry}
-use Rattle.serial_runs.specs.SerialRuns.{HasValue, IsAsked, IsSerialRun}
+use Rattle.serial_runs.specs.SerialRuns.{HasValue, IsAsked, IsSerialRunWith}
 
 none_at : (sources : List (Option ℕ)) (leaf : ℕ) → AllByRecursion (λ source. source ≡ None) sources → slice_index_or sources leaf None ≡ None
 none_at [] leaf all = refl
@@ -18,7 +18,7 @@ abbrev pub IsOwn : JobValue → Entry → Type 0
 IsOwn job call = slice_get job.acts call.leaf ≡ Some (Call call.op)
 
 module _ (work : ℕ → ℕ) (job : JobValue) (calls : List Entry) where
-  pub each_own : HasNoSources job → IsSerialRun work job calls → AllByRecursion (IsOwn job) calls
+  pub each_own : HasNoSources job → IsSerialRunWith work job calls → AllByRecursion (IsOwn job) calls
   each_own plain run = each_so (IsAsked work job calls) (IsOwn job)
       (λ call asked. asked.act ∙ ap (λ op. Some (Call op)) (sym (asked.plain (none_at job.sources call.leaf plain)))) calls run.asked
 

@@ -95,7 +95,7 @@ pub replied_sum : (sum_is : ℕ) (job : JobValue) (last workers : ℕ) (report :
 replied_sum sum_is job last workers report given is lawful to =
     let items : List ℕ = is.numbers in
     let entries = flat report.history in
-    let run : IsSerialRun spin_of job entries = serial spin_of job workers report lawful in
+    let run : IsSerialRun job entries = serial spin_of job workers report lawful in
     let acts = acts_at spin_of job report.history entries is.plain lawful.calls.operations in
     let e = to.call in
     let own : slice_get job.acts e.leaf ≡ Some (Call e.op) = each_at (λ (e : Entry). slice_get job.acts e.leaf ≡ Some (Call e.op)) entries e acts to.made in

@@ -17,7 +17,7 @@ use Rattle.job_builder.specs.Drafts.{Draft, built, closed, nothing, opened, with
 use Rattle.job_builder.proofs.Unnamed.{acts_stay}
 use Rattle.batch_history.specs.Book.{IsLegalFrom}
 use Rattle.batch_history.specs.declared.batch.Entry.{Entry}
-use Rattle.serial_runs.specs.SerialRuns.{IsReplyTo, IsSerialRun}
+use Rattle.serial_runs.specs.SerialRuns.{IsReplyTo, IsSerialRunWith}
 use Rattle.job_uses.specs.Adds.{AddsTwo}
 use Rattle.job_uses.specs.Sums.{add_of}
 use Rattle.job_uses.proofs.Plain.{IsOwn, each_own}
@@ -36,7 +36,7 @@ adds_two a b = record {
 
 -- a leaf that adds is told a number
 pub told_number : (work : ℕ → ℕ) (job : JobValue) (calls : List Entry) (leaf number : ℕ) (given : Reply) → HasNoSources job → slice_get job.acts leaf ≡ Some (add_of number)
-    → IsSerialRun work job calls → IsReplyTo calls leaf given → (sum_is : ℕ) × (given ≡ Number sum_is)
+    → IsSerialRunWith work job calls → IsReplyTo calls leaf given → (sum_is : ℕ) × (given ≡ Number sum_is)
 told_number work job calls leaf number given plain adds run to =
     let own = each_at (IsOwn job) calls to.call (each_own work job calls plain run) to.made in
     let op : to.call.op ≡ CounterAdd 0 number = let also = ap (slice_get job.acts) to.of_leaf in cc in
@@ -94,7 +94,7 @@ module _ (a b : ℕ) where
   told_in (e ∷ f ∷ g ∷ calls) x y adds distinct legal to_first to_second = absurd
       (no_three e.leaf f.leaf g.leaf (below e.leaf e.op adds.0) (below f.leaf f.op adds.1.0) (below g.leaf g.op adds.1.1.0) distinct.0.0 distinct.0.1.0 distinct.1.0.0)
 
-  told : (work : ℕ → ℕ) (job : JobValue) (calls : List Entry) (x y : Reply) → AddsTwo a b job → IsSerialRun work job calls → IsReplyTo calls 0 x → IsReplyTo calls 1 y → Told x y
+  told : (work : ℕ → ℕ) (job : JobValue) (calls : List Entry) (x y : Reply) → AddsTwo a b job → IsSerialRunWith work job calls → IsReplyTo calls 0 x → IsReplyTo calls 1 y → Told x y
   told work job calls x y is run to_first to_second =
       let adds = each_so (IsOwn job) (λ (e : Entry). Adds e.leaf e.op) (λ (e : Entry) own. added_at e.leaf e.op (ap (λ acts. slice_get acts e.leaf) (sym is.acts) ∙ own)) calls
       (each_own work job calls is.plain run) in
@@ -115,7 +115,7 @@ module _ (a b : ℕ) where
       let second : n ≡ b = let given = is.1 in cc in
       inr (λ i. (first i, second i))
 
-  pub told_sums : (work : ℕ → ℕ) (job : JobValue) (calls : List Entry) (leaf other m n : ℕ) → AddsTwo a b job → IsSerialRun work job calls → leaf ≡ 0 → other ≡ 1
+  pub told_sums : (work : ℕ → ℕ) (job : JobValue) (calls : List Entry) (leaf other m n : ℕ) → AddsTwo a b job → IsSerialRunWith work job calls → leaf ≡ 0 → other ≡ 1
       → IsReplyTo calls leaf (Number m) → IsReplyTo calls other (Number n) → AreSums (m, n)
   told_sums work job calls leaf other m n is run first second to_first to_second =
       are_sums m n

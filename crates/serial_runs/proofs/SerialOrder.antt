@@ -15,7 +15,7 @@ use Rattle.batch_history.specs.declared.report.Report.{Report}
 use Rattle.batch_history.specs.Book.{flat}
 use Rattle.batch_history.specs.Lawful.{HasRows, LawfulWith}
 use Rattle.batch_history.specs.Operations.{source_of, op_of}
-use Rattle.serial_runs.specs.SerialRuns.{IsAsked, IsSerialRun}
+use Rattle.serial_runs.specs.SerialRuns.{IsAsked, IsSerialRunWith}
 use Rattle.serial_runs.proofs.Elements.{each_contained, pairs_append, pairs_contained}
 use Rattle.serial_runs.proofs.Values.{asked_from}
 
@@ -70,7 +70,7 @@ module _ (meaning : ℕ → ℕ) (job : JobValue) (workers : ℕ) (report : Repo
       let earlier : j < i = lawful.ticks j i b a sb sa (get_or report.rows b.leaf no_row) row_b (get_or report.rows a.leaf no_row) row_a ends in
       omega (arith, earlier, le)
 
-  pub serial : IsSerialRun meaning job (flat report.history)
+  pub serial : IsSerialRunWith meaning job (flat report.history)
   serial = record {
     each = lawful.calls.leaves;
     asked = each_so (λ (e : Entry). op_of meaning job report.history e.leaf ≡ Some e.op) (IsAsked meaning job (flat report.history))

@@ -3,6 +3,7 @@ use Rattle.std.specs.Prelude.{◌≡◌, ℕ, List, None, Some, Contains, map, s
 use Rattle.std.specs.List.{AllByRecursion}
 use Rattle.seq_objects.specs.Objects.{value_of}
 use Rattle.seq_objects.specs.Pairs.{AllPairsByRecursion, IsEnumerationOf}
+use Rattle.seq_objects.specs.Spin.{spin_of}
 use Rattle.seq_objects.specs.Stores.{opening_store}
 use Rattle.seq_objects.specs.declared.act.Act.TheVariants.{Work, Call}
 use Rattle.seq_objects.specs.declared.op.Op.{Op}
@@ -47,8 +48,12 @@ pub record IsAsked (work : ℕ → ℕ) (job : JobValue) (calls : List Entry) (c
 -- The calls are the job's, where its leaves of work compute `work`, each as if it stood alone: each leaf that calls
 -- makes one call, the one that it asks for; no call is made before one whose leaf precedes its own in the job; and each
 -- reply is that of the serial objects at this point, which begin empty.
-pub record IsSerialRun (work : ℕ → ℕ) (job : JobValue) (calls : List Entry) : Type 0 where
+pub record IsSerialRunWith (work : ℕ → ℕ) (job : JobValue) (calls : List Entry) : Type 0 where
   pub each : IsEnumerationOf (IsCallLeaf job.acts) (map (λ call. call.leaf) calls)
   pub asked : AllByRecursion (IsAsked work job calls) calls
   pub order : AllPairsByRecursion (λ first later. IsBefore job.shape later.leaf first.leaf → ⊥) calls
   pub replies : IsLegalFrom opening_store calls
+
+-- the same where they spin
+abbrev pub IsSerialRun : JobValue → List Entry → Type 0
+IsSerialRun = IsSerialRunWith spin_of

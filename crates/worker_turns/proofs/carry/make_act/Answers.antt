@@ -1,6 +1,6 @@
 use Rattle.std.proofs.Common.{ℕ, Some, [], ◌∷◌, ◌∙◌, refl, sym, ap}
 use Rattle.table_rule.specs.declared.view.PassView.{PassView}
-use Rattle.table_rule.specs.Passes.{opening}
+use Rattle.table_rule.specs.Passes.{keeping, opening}
 use Rattle.core_table.specs.Passes.{pass_view}
 use Rattle.worker_crew.specs.Passes.{is_trapped}
 use Rattle.two_deques.specs.Hands.{Held}
@@ -35,7 +35,9 @@ pub returns-in-End-clause-carried : goal.returns-in-End-clause-carried
 returns-in-End-clause-carried g c = let t = c.tick-in-End.ensures.ended _ _ (c.requires.due ∙ ap Some c.in-End.is) in carried_step _ _ _ _ _ (_ ∷ []) (own_of _ _ t) refl refl
 
 pub returns-in_ok-worked-in-Spin-clause-carried : goal.returns-in_ok-worked-in-Spin-clause-carried
-returns-in_ok-worked-in-Spin-clause-carried g c = let k = c.keep.ensures.kept in carried_step _ _ _ _ _ _ (own_of _ _ k.3) refl refl
+returns-in_ok-worked-in-Spin-clause-carried g c =
+    let k = c.keep.ensures.kept in
+    carried_step _ _ _ _ _ _ (own_of _ _ k.3 ∙ ap (keeping k.0 k.1 _) c.number_due-number.ensures.seen) refl refl
 
 pub returns-in_ok-make_call-in-Call-clause-carried : goal.returns-in_ok-make_call-in-Call-clause-carried
 returns-in_ok-make_call-in-Call-clause-carried g c =

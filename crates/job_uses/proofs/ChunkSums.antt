@@ -10,7 +10,6 @@ use Rattle.std.proofs.lemmas.Grind.{div_ceil_times}
 use Rattle.std.proofs.lemmas.List.{drop-take, take-take, take_all, take_min}
 use Rattle.std.proofs.lemmas.List.FromFn.{get_or-map-range_with_len, length-map-range_with_len, map-range_with_len_more}
 use Rattle.std.proofs.lemmas.List.Sums.{sum_by-take-drop, sum_by-take-le}
-use Rattle.std.proofs.lemmas.Option.{slice_get-get_or}
 use Rattle.seq_objects.specs.declared.act.Act.{Act}
 use Rattle.seq_objects.specs.declared.act.Act.TheVariants.{Work}
 use Rattle.sp_order.specs.Objects.{AreUnnamed}
@@ -18,6 +17,7 @@ use Rattle.leaf_handles.specs.Handles.{HandleValue}
 use Rattle.job_builder.specs.Drafts.{Draft, built}
 use Rattle.job_builder.proofs.Unnamed.{acts_stay}
 use Rattle.job_uses.specs.Chunks.{chunk_of}
+use Rattle.job_uses.proofs.ThreeParts.{get_mapped}
 
 -- the items of the first chunks, and one chunk more
 pub more_chunks : (items : List ℕ) (width chunks : ℕ) → sum (take (chunks * width) items) + sum (chunk_of width items chunks) ≡ sum (take ((chunks + 1) * width) items)
@@ -70,11 +70,7 @@ handle_at chunks number leaves other are less =
     ap (λ xs. get_or xs number other) are ∙ get_or-map-range_with_len handle 0 chunks number number other less (omega arith)
 
 pub act_at : (chunks number : ℕ) (acts : List Act) → acts ≡ map Work (range_with_len 0 chunks) → number < chunks → slice_get acts number ≡ Some (Work number)
-act_at chunks number acts are less =
-    let work : ℕ → Act = λ n. Work n in
-    let long = length-map-range_with_len work 0 chunks in
-    ap (λ xs. slice_get xs number) are ∙ slice_get-get_or (map work (range_with_len 0 chunks)) number (Work 0) (omega (arith, long, less))
-    ∙ ap Some (get_or-map-range_with_len work 0 chunks number number (Work 0) less (omega arith))
+act_at chunks number acts are less = ap (λ xs. slice_get xs number) are ∙ get_mapped (λ n. Work n) chunks number less
 
 -- one leaf more
 

@@ -5,5 +5,8 @@ pub mod Plain
 pub mod Refusals
 pub mod SumJobs
 pub mod SumReplies
+pub mod ThreeParts
+pub mod TotalJobs
+pub mod TotalReplies
 pub mod TwoAdds
 pub mod TwoCalls

@@ -69,7 +69,7 @@ each_unnamed [] = tt
 each_unnamed (number ∷ numbers) = (refl, each_unnamed numbers)
 
 -- outside the block each leaf is shown
-all_shown : (u : ℕ) → (if nat_le 0 u then true else false) ≡ true
+pub all_shown : (u : ℕ) → (if nat_le 0 u then true else false) ≡ true
 all_shown u = let on : nat_le 0 u ≡ true = grind (arith, nat_tests) in ap (λ b. if b then true else false) on
 
 -- the job that is built

@@ -50,7 +50,7 @@ acts_below (item ∷ items) zero act is = omega arith
 acts_below (item ∷ items) (suc u) act is = omega (arith, acts_below items u act is)
 
 -- no call stands behind the one of the last leaf, so that one replies the last sum
-abbrev IsBehind : ℕ → Entry → Entry → Type 0
+abbrev pub IsBehind : ℕ → Entry → Entry → Type 0
 IsBehind n a b = b.leaf < n → a.leaf ≡ n → ⊥
 
 none_behind : (n : ℕ) (a : Entry) (xs : List Entry) → a.leaf ≡ n → AllByRecursion (λ (e : Entry). e.leaf ≤ n) xs → AllByRecursion (IsBehind n a) xs
@@ -61,7 +61,7 @@ none_behind n a (x ∷ xs) is below behind apart = elim (cases_lt x.leaf n) [
   | inr more ↦ let low = below.0 in absurd (apart.0 (omega (arith, is, low, more)))
 ]
 
-last_replied : (n s : ℕ) (entries : List Entry) (k : ℕ) (e : Entry) → k < length entries → get_or entries k e ≡ e → e.leaf ≡ n → e.op ≡ CounterAdd 0 0
+pub last_replied : (n s : ℕ) (entries : List Entry) (k : ℕ) (e : Entry) → k < length entries → get_or entries k e ≡ e → e.leaf ≡ n → e.op ≡ CounterAdd 0 0
     → AllByRecursion (λ (e : Entry). e.leaf ≤ n) entries → AllPairsByRecursion (IsBehind n) entries → AreDistinct (map (λ (e : Entry). e.leaf) entries)
     → last_sum s entries ≡ number_of e.reply
 last_replied n s [] k e less at is op below behind distinct = absurd (omega (arith, less))
@@ -85,7 +85,7 @@ is_number store (x ∷ xs) zero e addend less at op legal =
     r ∙ ap (λ y. reply.Number (number_of y)) (sym r)
 is_number store (x ∷ xs) (suc k) e addend less at op legal = is_number (store_after store x.op) xs k e addend (omega (arith, less)) at op legal.1
 
-pairs_so : {A : Type 0} (R S : A → A → Type 0) → ((a b : A) → R a b → S a b) → (xs : List A) → AllPairsByRecursion R xs → AllPairsByRecursion S xs
+pub pairs_so : {A : Type 0} (R S : A → A → Type 0) → ((a b : A) → R a b → S a b) → (xs : List A) → AllPairsByRecursion R xs → AllPairsByRecursion S xs
 pairs_so R S f [] h = tt
 pairs_so R S f (x ∷ xs) h = (each_so (R x) (S x) (f x) xs h.0, pairs_so R S f xs h.1)
 

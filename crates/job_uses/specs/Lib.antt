@@ -3,5 +3,6 @@ pub mod Adds
 pub mod Chunks
 pub mod Interest
 pub mod Sums
+pub mod Totals
 pub mod Refusals
 pub mod Code

@@ -17,9 +17,9 @@ use std::thread::Threads;
 
 /// A slice in chunks of this width. A leaf with the number `n` adds up chunk `n`.
 #[derive(Drop)]
-struct Chunks<'a> {
-    items: &'a [u32],
-    width: usize,
+pub(crate) struct Chunks<'a> {
+    pub(crate) items: &'a [u32],
+    pub(crate) width: usize,
     ghost small: { sum items.now < 2 ^ 32 },
 }
 

@@ -2,7 +2,7 @@
 ghost use Rattle.std.specs.Prelude.{◌≡◌, ◌<◌, ◌≤◌};
 
 use crate::{
-    balance_in_threads, chunks_in_threads, grid_job, sum_in_threads, ticket_job,
+    balance_in_threads, chunks_in_threads, grid_job, sum_in_threads, ticket_job, total_in_threads,
     two_adds_in_threads,
 };
 use job_builder::{BuildError, Builder, Order};
@@ -24,6 +24,16 @@ fn chunks_are_added_up(rt: HostRuntime) -> Result<(), Fail> {
 fn chunks_are_added_up_by_their_leaves(rt: HostRuntime) -> Result<(), Fail> {
     let items = [3u32, 1, 4, 1, 5, 9, 2, 6];
     let Ok(sum) = chunks_in_threads(&rt, rt.alloc(), &items, 3, 3) else {
+        panic!(rt; "no memory")
+    };
+    assert!(rt; sum == 31);
+    Ok(())
+}
+
+#[test]
+fn chunks_are_added_up_and_told_to_a_counter(rt: HostRuntime) -> Result<(), Fail> {
+    let items = [3u32, 1, 4, 1, 5, 9, 2, 6];
+    let Ok(sum) = total_in_threads(&rt, rt.alloc(), &items, 3, 3) else {
         panic!(rt; "no memory")
     };
     assert!(rt; sum == 31);

@@ -16,7 +16,7 @@ use crate::outs::take_rows;
 use crate::piece::PieceIn;
 use object_rows::close::close_row;
 use object_rows::open::open_row;
-use object_rows::run::run_rows;
+use object_rows::serve::serve_row;
 use object_rows::{Members, Row, RowList};
 use seq_objects::{Batched, Call, Reply};
 use std::alloc::{AllocError, Global};
@@ -177,8 +177,7 @@ pub(crate) fn close<T: Kind>(
     Ok(())
 }
 
-/// Serves the calls of a row: opens the structures that they call, runs the pieces place after place, and closes the
-/// structures. Appends the replies.
+/// Serves the calls of a row on one thread. Appends the replies.
 pub(crate) fn serve<T: Kind>(
     alloc: Global,
     row: &mut RowOf<T>,
@@ -196,9 +195,7 @@ pub(crate) fn serve<T: Kind>(
     if calls.is_empty() {
         return Ok(());
     }
-    let ins = open_row::<T, Maker>(alloc, row, calls)?;
-    let outs = run_rows::<T>(alloc, ins)?;
-    let told = close_row(alloc, row, calls, outs)?;
+    let told = serve_row::<T, Maker>(alloc, row, calls)?;
     put_behind(replies, told)?;
     Ok(())
 }

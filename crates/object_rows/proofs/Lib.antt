@@ -9,3 +9,4 @@ pub mod Putting
 pub mod RowLists
 pub mod Opening
 pub mod Closing
+pub mod Serving

@@ -4,7 +4,7 @@
 //! those that a batch calls, each for its own calls, and puts their pieces into rows: those that are at one place of
 //! their lists go together, in the order of the numbers. `run_all` runs the pieces of a place. `close_row` deals the
 //! outs back, ends each structure, and returns the replies in the order of the calls: those of serving the calls one
-//! after another. The crate stands on `Batched` alone, and on no structure.
+//! after another. `serve_row` does all of it on one thread. The crate stands on `Batched` alone, and on no structure.
 #![tactic(auto)]
 
 pub mod by_number;
@@ -18,6 +18,7 @@ pub mod row;
 pub mod row_list;
 mod rows;
 pub mod run;
+pub mod serve;
 
 pub use by_number::ByNumber;
 pub use fresh::Fresh;

@@ -17,7 +17,7 @@ use seq_objects::{Batched, Call};
 use std::alloc::{AllocError, Global};
 
 /// Takes the structure of a number out, or makes it.
-fn taken_or_fresh<T: Batched, F: Fresh<T>>(
+pub(crate) fn taken_or_fresh<T: Batched, F: Fresh<T>>(
     alloc: Global,
     structures: &mut ByNumber<T>,
     number: u32,

@@ -12,7 +12,7 @@ ghost use Rattle.core_model.specs.Reports.{IsDrivenFrom, IsRunFrom};
 use crate::scheduler::{Core, CoreWith};
 use batch_history::Report;
 use core_model::laws::report::driven_report_is_of_a_run;
-use leaf_work::{LeafWork, Spin, WorkBrand};
+use leaf_work::{BrandedWork, LeafWork, Spin, WorkBrand};
 use sp_order::laws::plan_stands_for_tree;
 use std::alloc::{AllocError, Global};
 
@@ -21,10 +21,9 @@ use std::alloc::{AllocError, Global};
 #[inline(always)]
 fn take_turn<B: WorkBrand, W: LeafWork>(
     core: &mut CoreWith<B>,
-    work: &W,
+    work: &BrandedWork<'_, B, W>,
     worker: u32,
 ) -> Result<bool, AllocError>
-    requires meaning { W.meaning work.now ≡ B.work }
     requires worker_in { worker < core.old.workers }
     requires goes_on { is_over_in core.old ≡ false }
     ensures job { (core.new.job ≡ core.old.job)
@@ -34,11 +33,7 @@ fn take_turn<B: WorkBrand, W: LeafWork>(
     ensures spent { IfOk result (λ _. core.old.spent ≡ false) }
     ensures over { IfOk result (λ over. over ≡ is_over_in core.new) }
 {
-    if core.is_certainly_idle(worker) {
-        return Ok(false);
-    }
-    let value = core.do_due(worker, work)?;
-    core.advance(worker, value)?;
+    core.advance(worker, work)?;
     Ok(core.is_over())
 }
 
@@ -53,10 +48,9 @@ fn next_worker(worker: u32, workers: u32) -> u32
 /// Takes the turns of a schedule until it ends or the core is over.
 fn run_schedule<B: WorkBrand, W: LeafWork>(
     core: &mut CoreWith<B>,
-    work: &W,
+    work: &BrandedWork<'_, B, W>,
     schedule: &[u32],
 ) -> Result<(), AllocError>
-    requires meaning { W.meaning work.now ≡ B.work }
     requires among { AllByRecursion (λ worker. worker < core.old.workers) schedule.now }
     ensures job { IfOk result (λ _. (core.new.job ≡ core.old.job)
         × (core.new.workers ≡ core.old.workers)) }
@@ -77,9 +71,8 @@ fn run_schedule<B: WorkBrand, W: LeafWork>(
 /// Takes turns by all workers round robin, from worker 0 on, until the core is over.
 fn run_round_robin<B: WorkBrand, W: LeafWork>(
     core: &mut CoreWith<B>,
-    work: &W,
+    work: &BrandedWork<'_, B, W>,
 ) -> Result<(), AllocError>
-    requires meaning { W.meaning work.now ≡ B.work }
     ensures job { IfOk result (λ _. (core.new.job ≡ core.old.job)
         × (core.new.workers ≡ core.old.workers)) }
     ensures drives { IfOk result
@@ -102,10 +95,9 @@ fn run_round_robin<B: WorkBrand, W: LeafWork>(
 /// Takes the turns of a schedule, and then turns round robin, until the core is over.
 fn run<B: WorkBrand, W: LeafWork>(
     core: &mut CoreWith<B>,
-    work: &W,
+    work: &BrandedWork<'_, B, W>,
     schedule: &[u32],
 ) -> Result<(), AllocError>
-    requires meaning { W.meaning work.now ≡ B.work }
     requires among { AllByRecursion (λ worker. worker < core.old.workers) schedule.now }
     ensures job { IfOk result (λ _. (core.new.job ≡ core.old.job)
         × (core.new.workers ≡ core.old.workers)) }
@@ -139,7 +131,7 @@ pub fn drive_with<B: WorkBrand, W: LeafWork>(
 {
     driven_report_is_of_a_run();
     let mut core = core;
-    run(&mut core, work, schedule)?;
+    run(&mut core, &BrandedWork::of(work), schedule)?;
     core.report(alloc)
 }
 

@@ -1,5 +1,5 @@
 //! The scheduler's core: a job, its workers, and the turns that run it.
-ghost use Rattle.std.specs.Prelude.{◌≡◌, ◌<◌, ◌≤◌, ℕ, IfOk, IfErr, IsSome, IfSome, MatchOption, Some, None, true, false, IsTrue, map};
+ghost use Rattle.std.specs.Prelude.{◌≡◌, ◌<◌, ◌≤◌, ℕ, IfOk, IfErr, IsSome, IfSome, MatchOption, Some, true, false, map};
 ghost use Rattle.core_model.specs.State.{opening_core};
 ghost use Rattle.core_model.specs.Choice.{choice};
 ghost use Rattle.sp_order.specs.Jobs.{job_tree};
@@ -12,18 +12,19 @@ ghost use Rattle.std.specs.List.{AllByRecursion, range_with_len};
 ghost use Rattle.limits.specs.declared.TheConstants.{MOST_WORKERS};
 ghost use Rattle.batcher_core.specs.Cores.{job_in_with, state_in, due_in, moved_if, turn_answer, is_over_in, IsTurnResult};
 ghost use Rattle.core_state.specs.Code.Representation.{RepInvariant};
-ghost use Rattle.core_state.specs.WorkDue.{IsValueOf};
+ghost use Rattle.core_state.specs.WorkDue.{CanGive};
+ghost use Rattle.batcher_core.specs.declared.turn.Turn.TheVariants.{Moved};
 ghost use Rattle.batcher_core.specs.Doings.{doing_in};
 
 use crate::report::rows_of;
-use crate::spun::SpunWith;
+use crate::spun::{Given, SpunWith};
 use crate::turn::Turn;
 use batch_history::{History, Report, Row, Rows};
 use core_model::laws::book::job_has_its_sources;
 use core_model::laws::report::{done_leaves_have_run, done_report_is_lawful};
 use core_model::{Event, Setting};
 use core_state::{Doing, State, history_of};
-use leaf_work::{LeafWork, Spin, WorkBrand};
+use leaf_work::{Spin, WorkBrand, WorkValue};
 use sp_order::Job;
 use sp_order::laws::{plan_has_sides, plan_stands_for_tree};
 use std::alloc::{AllocError, Global};
@@ -65,17 +66,6 @@ impl<B: WorkBrand> Model for CoreWith<B> {
     ghost invariant = { λ c. (0 < c.setting.workers) × (c.spent ≡ false → Represents B.work c.setting c.table) };
 }
 
-/// The value of the given work, if there is any.
-fn value_of<B: WorkBrand>(spun: &Option<SpunWith<B>>) -> Option<u64>
-    ensures none { spun.now ≡ None → result ≡ None }
-    ensures some { IfSome spun.now (λ s. result ≡ Some (B.work s)) }
-{
-    match spun {
-        None => None,
-        Some(spun) => Some(spun.value()),
-    }
-}
-
 impl<B: WorkBrand> CoreWith<B> {
     /// The core of a job with leaves, in the opening state.
     ///
@@ -112,55 +102,55 @@ impl<B: WorkBrand> CoreWith<B> {
         self.table.work_due::<B>(&self.setting, worker)
     }
 
-    /// The value of the work that a worker has due, if it has some. The work is done here, by `work`.
+    /// The event of a worker's next turn, if it has one. `work` gives the value of the work that is due, if some is.
     #[inline(always)]
-    pub(crate) fn do_due<W: LeafWork>(
-        &self,
-        worker: u32,
-        work: &W,
-    ) -> Result<Option<u64>, AllocError>
-        requires worker_in { worker < self.now.workers }
-        requires meaning { W.meaning work.now ≡ B.work }
-        ensures { IfOk result (λ value. IsValueOf B.work (due_in self.now worker) value) }
-    {
-        if self.spent {
-            return Err(AllocError);
-        }
-        match self.due(worker) {
-            Some(steps) => Ok(Some(u64::from(work.run(self.alloc, steps)?))),
-            None => Ok(None),
-        }
-    }
-
-    /// The event of a worker's next turn, if it has one. `work` is the value of the work that is due, if some is.
-    #[inline(always)]
-    fn choice(&self, worker: u32, work: Option<u64>) -> Option<Event>
+    fn choice<V: WorkValue>(&self, worker: u32, work: &V) -> Result<Option<Event>, AllocError>
         requires unspent { self.now.spent ≡ false }
         requires worker_in { worker < self.now.workers }
-        requires work { IsValueOf B.work (due_in self.now worker) work }
-        ensures { result ≡ choice (job_in_with B.work self.now) (state_in self.now) worker }
+        requires meaning { V.meaning work.now ≡ B.work }
+        requires has { CanGive V.has work.now (due_in self.now worker) }
+        ensures { IfOk result
+            (λ event. event ≡ choice (job_in_with B.work self.now) (state_in self.now) worker) }
     {
-        self.table.choose::<B>(&self.setting, worker, work)
+        self.table
+            .choose::<B, V>(self.alloc, &self.setting, worker, work)
     }
 
-    /// Cheap check: true implies that the worker has no event; false says nothing.
-    ///
-    /// Memory: none.
+    /// Performs an event that a worker has.
     #[inline(always)]
-    pub(crate) fn is_certainly_idle(&self, worker: u32) -> bool
-        requires worker_in { worker < self.now.workers }
-        ensures choice { IsTrue result
-            → choice (job_in_with B.work self.now) (state_in self.now) worker ≡ None }
-        ensures spent { IsTrue result → self.now.spent ≡ false }
-    {
-        !self.spent && self.table.is_certainly_idle::<B>(&self.setting, worker)
-    }
-
-    /// Performs the event of a worker's turn, if it has one. `work` is the value of the work that is due, if some is.
-    #[inline(always)]
-    pub(crate) fn advance(&mut self, worker: u32, work: Option<u64>) -> Result<Turn, AllocError>
+    fn perform(&mut self, worker: u32, event: Event) -> Result<(), AllocError>
         requires worker_in { worker < self.old.workers }
-        requires work { IsValueOf B.work (due_in self.old worker) work }
+        requires unspent { self.old.spent ≡ false }
+        requires chosen { choice (job_in_with B.work self.old) (state_in self.old) worker ≡ Some event }
+        ensures event { IfOk result
+            (λ _. IsTurnResult Moved (job_in_with B.work self.old) (state_in self.old) worker (state_in self.new)) }
+        ensures failed { IfErr result (λ _. self.new.spent ≡ true) }
+        ensures spent { IfOk result (λ _. self.new.spent ≡ false) }
+        ensures job { (self.new.job ≡ self.old.job)
+            × (self.new.workers ≡ self.old.workers) }
+    {
+        match self
+            .table
+            .apply::<B>(self.alloc, &self.setting, worker, event)
+        {
+            Ok(()) => Ok(()),
+            Err(error) => {
+                self.spent = true;
+                Err(error)
+            }
+        }
+    }
+
+    /// Performs the event of a worker's turn, if it has one. `work` gives the value of the work that is due, if some is.
+    #[inline(always)]
+    pub(crate) fn advance<V: WorkValue>(
+        &mut self,
+        worker: u32,
+        work: &V,
+    ) -> Result<Turn, AllocError>
+        requires worker_in { worker < self.old.workers }
+        requires meaning { V.meaning work.now ≡ B.work }
+        requires has { CanGive V.has work.now (due_in self.old worker) }
         ensures turn { IfOk result
             (λ t. t ≡ moved_if (choice (job_in_with B.work self.old) (state_in self.old) worker)) }
         ensures event { IfOk result
@@ -173,14 +163,12 @@ impl<B: WorkBrand> CoreWith<B> {
         if self.spent {
             return Err(AllocError);
         }
-        let Some(event) = self.choice(worker, work) else {
-            return Ok(Turn::Idle);
-        };
-        match self
-            .table
-            .apply::<B>(self.alloc, &self.setting, worker, event)
-        {
-            Ok(()) => Ok(Turn::Moved),
+        match self.choice(worker, work) {
+            Ok(Some(event)) => {
+                self.perform(worker, event)?;
+                Ok(Turn::Moved)
+            }
+            Ok(None) => Ok(Turn::Idle),
             Err(error) => {
                 self.spent = true;
                 Err(error)
@@ -215,7 +203,7 @@ impl<B: WorkBrand> CoreWith<B> {
                 return Ok(Turn::Spin(steps));
             }
         }
-        self.advance(worker, value_of(&spun))
+        self.advance(worker, &Given::of(spun))
     }
 
     /// A worker's ready nodes, oldest first. A number that is no worker's has none.

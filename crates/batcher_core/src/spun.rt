@@ -1,7 +1,7 @@
 //! Work done outside the core.
-ghost use Rattle.std.specs.Prelude.{◌≡◌, IfOk};
+ghost use Rattle.std.specs.Prelude.{◌≡◌, Some, IfOk};
 
-use leaf_work::{LeafWork, Spin, WorkBrand};
+use leaf_work::{LeafWork, Spin, WorkBrand, WorkValue};
 use seq_objects::work::spin;
 use std::alloc::{AllocError, Global};
 use std::marker::{Model, PhantomData};
@@ -63,9 +63,42 @@ impl<B: WorkBrand> SpunWith<B> {
     }
 
     /// The value of the leaf.
-    pub(crate) fn value(&self) -> u64
+    fn value(&self) -> u32
         ensures { result ≡ B.work self.now }
     {
-        u64::from(self.gives)
+        self.gives
+    }
+}
+
+/// The work that a caller has done before a turn, if any.
+#[derive(Drop)]
+pub(crate) struct Given<B: WorkBrand> {
+    spun: Option<SpunWith<B>>,
+}
+
+impl<B: WorkBrand> Given<B> {
+    /// This work.
+    pub(crate) fn of(spun: Option<SpunWith<B>>) -> Given<B>
+        ensures { result.spun ≡ spun }
+    {
+        Given { spun }
+    }
+}
+
+impl<B: WorkBrand> WorkValue for Given<B> {
+    ghost meaning = { λ self. B.work };
+
+    /// It has the value for the number of the work.
+    ghost has = { λ self n. self.spun ≡ Some n };
+
+    /// The value of the work that was done.
+    fn value(&self, _alloc: Global, n: u32) -> Result<u32, AllocError>
+        requires { self.now.spun ≡ Some n }
+        ensures { IfOk result (λ value. value ≡ B.work n) }
+    {
+        match &self.spun {
+            Some(spun) => Ok(spun.value()),
+            None => unreachable!(),
+        }
     }
 }

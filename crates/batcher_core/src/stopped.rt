@@ -15,7 +15,7 @@ use crate::scheduler::Core;
 use crate::turn::Turn;
 use batch_history::Report;
 use core_model::laws::stopped::idle_stopped_workers_cost_nothing;
-use leaf_work::Spin;
+use leaf_work::{BrandedWork, Spin};
 use sp_order::laws::plan_stands_for_tree;
 use std::alloc::{AllocError, Global};
 
@@ -39,11 +39,7 @@ fn try_turn(core: &mut Core, worker: u32) -> Result<bool, AllocError>
         (λ moved. moved ≡ is_some (choice (job_in core.old) (state_in core.old) worker)) }
     ensures spent { IfOk result (λ _. core.new.spent ≡ false) }
 {
-    if core.is_certainly_idle(worker) {
-        return Ok(false);
-    }
-    let value = core.do_due(worker, &Spin)?;
-    match core.advance(worker, value)? {
+    match core.advance(worker, &BrandedWork::<Spin, Spin>::of(&Spin))? {
         Turn::Moved => Ok(true),
         _ => Ok(false),
     }

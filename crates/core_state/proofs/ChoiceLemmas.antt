@@ -1,4 +1,3 @@
 pub mod ClaimEnds
 pub mod Steals
 pub mod Allowed
-pub mod Given

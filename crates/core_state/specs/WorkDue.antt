@@ -18,6 +18,6 @@ number_asked job book (Some act) = None
 abbrev pub work_due : CoreJob → List (List Entry) → Task → CallState → Option ℕ
 work_due job book task call = number_asked job book (next_act job task call)
 
--- If work is due, this is its value, where the leaves of work compute `work`.
-abbrev pub IsValueOf : (ℕ → ℕ) → Option ℕ → Option ℕ → Type 0
-IsValueOf work due value = (number : ℕ) → due ≡ Some number → value ≡ Some (work number)
+-- If work is due, `value` has it: its own clause `has` holds of the number.
+abbrev pub CanGive : {V : Type 0} → (V → ℕ → Type 0) → V → Option ℕ → Type 0
+CanGive has value due = (number : ℕ) → due ≡ Some number → has value number

@@ -2,16 +2,14 @@
 use Rattle.batch_history.specs.Book.{flat}
 use Rattle.core_state.specs.Abstraction.{book_of, state_of}
 use Rattle.core_model.specs.Choice.{choice_steal, last_of}
-use Rattle.core_model.specs.Settings.{HasLeaf, TaskIn, job_of, job_with}
+use Rattle.core_model.specs.Settings.{HasLeaf, TaskIn, job_of}
 use Rattle.core_state.specs.Code.Sizes.{HasShop, Sizes}
+use Rattle.core_state.specs.WorkDue.{CanGive, work_due}
 use Rattle.core_model.specs.Invariant.Statuses.{is_taken_by}
 use Rattle.core_model.specs.Operations.{IsLeaf}
 use Rattle.core_model.specs.Events.{HasStarted}
-use Rattle.core_model.specs.Next.{next_act, worked}
 use Rattle.core_model.specs.State.{CoreJob, State}
 use Rattle.seq_objects.specs.declared.act.Act.TheVariants.{Work}
-use Rattle.core_model.specs.declared.next.Next.{Next}
-use Rattle.core_model.specs.declared.next.Next.TheVariants as acts
 use Rattle.core_model.specs.declared.event.Event.{Event}
 use Rattle.core_model.specs.declared.event.Event.TheVariants.{Claim}
 use Rattle.core_model.specs.declared.setting.Setting.{Setting}
@@ -44,12 +42,7 @@ claim_choice workers ready w (n ∷ ns) = Some (Claim (last_of n ns))
 abbrev pub IsAtWork : CoreJob → State → ℕ → ℕ → ℕ → Type 0
 IsAtWork job s w leaf steps = ((n : ℕ) × HasStarted job s w n leaf) × (job.act leaf ≡ Work steps)
 
--- if the act asks for work, this is its value, where the leaves of work compute `work`
-abbrev pub IsWorkFor : (ℕ → ℕ) → Setting → StoredState → Next → Option ℕ → Type 0
-IsWorkFor work setting t act value = (n start leaf steps : ℕ) → act ≡ acts.Spin n start leaf steps
-    → value ≡ Some (worked (job_with work setting) (state_of t).book n)
-
--- the same of the worker's next act, if there is one
-abbrev pub IsWorkOf : (ℕ → ℕ) → Setting → StoredState → ℕ → Option ℕ → Type 0
-IsWorkOf work setting t w value = (act : Next) → next_act (job_with work setting) ((state_of t).task w) ((state_of t).call w) ≡ Some act
-    → IsWorkFor work setting t act value
+-- if work is due for the worker, its value can be had
+abbrev pub CanGiveDue : {V : Type 0} → (V → ℕ → Type 0) → V → Setting → StoredState → ℕ → Type 0
+CanGiveDue has value setting t w =
+    CanGive has value (work_due (job_of setting) (state_of t).book ((state_of t).task w) ((state_of t).call w))

@@ -26,7 +26,7 @@ pub record RepInvariant (work : ℕ → ℕ) (job : JobValue) (workers : ℕ) (t
   pub leaves_in : (n : ℕ) → LeafIn (length job.acts) ((nodes_of (job_tree job)).kind n)
   -- the number of a calling leaf is below the number of nodes
   pub calls_in : (leaf : ℕ) → IsCall (core_job_with work job workers) leaf → leaf < (nodes_of (job_tree job)).count
-  -- each leaf's source is a calling leaf before it
+  -- each leaf's source is a leaf before it
   pub sources : HasSources (core_job_with work job workers)
   pub sizes : Sizes t (nodes_of (job_tree job)).count workers
   pub few_acts : length job.acts ≤ MOST_LEAVES

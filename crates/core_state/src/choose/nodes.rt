@@ -1,31 +1,21 @@
-//! The choice of a worker that claims a node, the event of a next act, and the work that is due.
-ghost use Rattle.std.specs.Prelude.{ℕ, ◌≡◌, ◌<◌, ◌≤◌, None, Some, IsSome, IsTrue};
+//! The choice of a worker that claims a node, the event of a next act, and the value of a leaf of work.
+ghost use Rattle.std.specs.Prelude.{ℕ, ◌≡◌, ◌<◌, ◌≤◌, Some, IfOk};
 ghost use Rattle.limits.specs.declared.TheConstants.{MOST_WORKERS};
-ghost use Rattle.core_model.specs.Next.{event_in};
+ghost use Rattle.core_model.specs.Next.{event_in, next_act};
 ghost use Rattle.core_model.specs.Operations.{number_from};
 ghost use Rattle.core_model.specs.Settings.{job_of, job_with};
 ghost use Rattle.core_state.specs.Abstraction.{state_of, ready_of};
-ghost use Rattle.core_state.specs.Code.Lookups.{CanChoose, IsAtWork, IsWorkFor, claim_choice};
+ghost use Rattle.core_state.specs.Code.Lookups.{CanChoose, CanGiveDue, IsAtWork, claim_choice};
 ghost use Rattle.core_state.specs.Code.Representation.{Represents};
 ghost use Rattle.core_state.specs.WorkDue.{work_due};
 
 use crate::state::State;
 use core_model::laws::book::started_leaf_has_its_source;
 use core_model::{Event, Next, Setting, Task};
-use leaf_work::WorkBrand;
+use leaf_work::{WorkBrand, WorkValue};
 use seq_objects::value;
 use sp_order::low_bits;
-
-/// The value of the work that is due, which must be given.
-fn given(work: Option<u64>) -> u64
-    requires { IsSome work }
-    ensures { work ≡ Some result }
-{
-    match work {
-        Some(value) => value,
-        None => unreachable!(),
-    }
-}
+use std::alloc::{AllocError, Global};
 
 impl State {
     /// The event of an idle worker: it claims the newest node of its own list, or else steals the oldest node of the
@@ -53,15 +43,6 @@ impl State {
         None
     }
 
-    /// Whether all ready lists are empty, so that an idle worker has nothing to claim.
-    #[inline(always)]
-    pub(crate) fn nothing_to_claim(&self, workers: u32, worker: u32) -> bool
-        ensures { IsTrue result
-            → claim_choice workers (ready_of self.now) worker (ready_of self.now worker) ≡ None }
-    {
-        self.ready.are_empty()
-    }
-
     /// The number of sides that have arrived at a parallel block.
     #[tactic(auto, unfolding(crate::specs::Abstraction::state_of))]
     fn mark_of(&self, parent: u32) -> u32
@@ -73,24 +54,60 @@ impl State {
         }
     }
 
-    /// The event that an act is. `work` is the value of the work that the act asks for, if it asks for some.
+    /// The value of a started leaf of work, by `work`.
     #[inline(always)]
-    pub(crate) fn event_of<B: WorkBrand>(
+    fn worked_value<B: WorkBrand, V: WorkValue>(
         &self,
+        alloc: Global,
         setting: &Setting,
-        act: Next,
-        work: Option<u64>,
-    ) -> Event
-        requires { IsWorkFor B.work setting.now self.now act work }
-        ensures { result ≡ event_in (job_with B.work setting.now) (state_of self.now) act }
+        leaf: u32,
+        steps: u32,
+        work: &V,
+    ) -> Result<u64, AllocError>
+        requires fits { Represents B.work setting.now self.now }
+        requires works { (worker : ℕ) × IsAtWork (job_with B.work setting.now) (state_of self.now) worker leaf steps }
+        requires meaning { V.meaning work.now ≡ B.work }
+        requires has { (number : ℕ) → number_from (state_of self.now).book steps ((job_with B.work setting.now).source leaf) ≡ Some number
+            → V.has work.now number }
+        ensures { IfOk result (λ value. (number : ℕ)
+            → number_from (state_of self.now).book steps ((job_with B.work setting.now).source leaf) ≡ Some number
+            → value ≡ B.work number) }
     {
-        match act {
+        let number = self.number_of::<B>(setting, leaf, steps);
+        Ok(u64::from(work.value(alloc, number)?))
+    }
+
+    /// The event that the worker's next act is. `work` gives the value of the work that the act asks for, if it asks for
+    /// some.
+    #[inline(always)]
+    pub(crate) fn event_of<B: WorkBrand, V: WorkValue>(
+        &self,
+        alloc: Global,
+        setting: &Setting,
+        worker: u32,
+        act: Next,
+        work: &V,
+    ) -> Result<Event, AllocError>
+        requires fits { Represents B.work setting.now self.now }
+        requires looks { CanChoose setting.now self.now }
+        requires next { next_act (job_of setting.now) ((state_of self.now).task worker)
+            ((state_of self.now).call worker) ≡ Some act }
+        requires meaning { V.meaning work.now ≡ B.work }
+        requires has { CanGiveDue V.has work.now setting.now self.now worker }
+        ensures { IfOk result (λ event. event ≡ event_in (job_with B.work setting.now) (state_of self.now) act) }
+    {
+        let event = match act {
             Next::Start { node, .. } => Event::Start(node),
             Next::Open { event, .. } => event,
-            Next::Spin { node, start, .. } => Event::Keep {
+            Next::Spin {
                 node,
                 start,
-                value: given(work),
+                leaf,
+                steps,
+            } => Event::Keep {
+                node,
+                start,
+                value: self.worked_value::<B, V>(alloc, setting, leaf, steps, work)?,
             },
             Next::Call { node, start, .. } => Event::Post { node, start },
             Next::Got { node, start, reply } => Event::Keep {
@@ -122,7 +139,8 @@ impl State {
                     }
                 }
             }
-        }
+        };
+        Ok(event)
     }
 
     /// The number of a leaf of work: its own, or, where it has a source, the low 32 bits of the source's value.
@@ -138,9 +156,9 @@ impl State {
         }
     }
 
-    /// The number of the leaf that the worker's task has started, if that leaf works rather than calls.
+    /// The number of the work that is due for a worker with this task, if some is.
     #[tactic(auto, unfolding(crate::specs::Abstraction::state_of))]
-    fn work_started<B: WorkBrand>(&self, setting: &Setting, worker: u32, task: Task) -> Option<u32>
+    fn work_of<B: WorkBrand>(&self, setting: &Setting, worker: u32, task: Task) -> Option<u32>
         requires fits { Represents B.work setting.now self.now }
         requires looks { CanChoose setting.now self.now }
         requires worker_in { worker < setting.now.workers }
@@ -157,7 +175,6 @@ impl State {
     }
 
     /// The number of the work that is due for a worker, if some is.
-    #[inline(always)]
     #[tactic(auto, unfolding(crate::specs::Abstraction::state_of))]
     pub fn work_due<B: WorkBrand>(&self, setting: &Setting, worker: u32) -> Option<u32>
         requires fits { Represents B.work setting.now self.now }
@@ -166,10 +183,6 @@ impl State {
         ensures { result ≡ work_due (job_of setting.now) (state_of self.now).book
             ((state_of self.now).task worker) ((state_of self.now).call worker) }
     {
-        let task = self.tasks[worker as usize];
-        match task {
-            Task::Started { .. } => self.work_started::<B>(setting, worker, task),
-            _ => None,
-        }
+        self.work_of::<B>(setting, worker, self.tasks[worker as usize])
     }
 }

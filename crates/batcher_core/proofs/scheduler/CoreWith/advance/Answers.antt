@@ -1,39 +1,9 @@
 use Rattle.std.proofs.Common.{sym, ◌∙◌}
-use Rattle.core_state.proofs.ChoiceLemmas.Allowed.{chosen_in_range, chosen_needs, chosen_at_end}
-use Rattle.batcher_core.proofs.CodeLemmas.Turning.{fits_after, makes_event, makes_none}
+use Rattle.batcher_core.proofs.CodeLemmas.Turning.{makes_none}
 use Rattle.batcher_core.proofs.scheduler.CoreWith.advance.Goals as goal
 
-pub returns-in_default-clause-event : goal.returns-in_default-clause-event
-returns-in_default-clause-event g c =
+pub returns-in-Ok-None-clause-event : goal.returns-in-Ok-None-clause-event
+returns-in-Ok-None-clause-event g c =
     let below = rw (← c.self.view_is) at c.requires.worker_in in
-    let none = rw (← c.self.view_is) at (sym c.choice.ensures ∙ c.in_default.is) in
+    let none = rw (← c.self.view_is) at (sym c.in-Ok-None.ensures ∙ c.in-Ok-None.field-0-is) in
     rw (← c.self.view_is) (makes_none c.self.inside.setting.job c.self.inside.setting.workers c.self.inside.table c.args.worker (c.self.invariant.1 c.if-self.false) below none)
-
-pub apply-requires : goal.apply-requires
-apply-requires g c =
-    let below = rw (← c.self.view_is) at c.requires.worker_in in
-    let chosen = rw (← c.self.view_is) at (sym c.choice.ensures ∙ c.in-Some.is) in
-    let fits = c.self.invariant.1 c.if-self.false in
-    record {
-      fits = fits;
-      worker_in = below;
-      in_range = chosen_in_range _ _ _ c.args.worker fits below c.in-Some.event chosen;
-      needs = chosen_needs _ _ _ c.args.worker fits below c.in-Some.event chosen;
-      at_end = chosen_at_end _ _ _ c.args.worker fits below c.in-Some.event chosen;
-    }
-
-pub invariant_of-self : goal.invariant_of-self
-invariant_of-self g c =
-    let below = rw (← c.self.view_is) at c.requires.worker_in in
-    let chosen = rw (← c.self.view_is) at (sym c.choice.ensures ∙ c.in-Some.is) in (
-      c.self.invariant.0,
-      λ unspent. fits_after _ _ _ c.apply.new.self c.args.worker c.in-Some.event (c.self.invariant.1 c.if-self.false) below chosen
-          c.in-Ok.ensures.event c.in-Ok.ensures.lists c.in-Ok.ensures.sizes,
-    )
-
-pub returns-in-Ok-clause-event : goal.returns-in-Ok-clause-event
-returns-in-Ok-clause-event g c =
-    let below = rw (← c.self.view_is) at c.requires.worker_in in
-    let chosen = rw (← c.self.view_is) at (sym c.choice.ensures ∙ c.in-Some.is) in
-    rw (← c.self.view_is) (makes_event _ _ _ c.apply.new.self c.args.worker c.in-Some.event (c.self.invariant.1 c.if-self.false) below chosen
-    c.in-Ok.ensures.event c.in-Ok.ensures.lists)

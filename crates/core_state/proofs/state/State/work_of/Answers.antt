@@ -3,7 +3,7 @@ use Rattle.core_model.proofs.Words.{LeafNode}
 use Rattle.core_model.specs.Operations.{leaf_of}
 use Rattle.core_model.specs.Settings.{job_with}
 use Rattle.core_model.proofs.ChoiceLemmas.Works.{works}
-use Rattle.core_state.proofs.state.State.work_started.Goals as goal
+use Rattle.core_state.proofs.state.State.work_of.Goals as goal
 
 -- the leaf is that of the worker's task
 pub number_of-requires-clause-works : goal.number_of-requires-clause-works

@@ -33,6 +33,9 @@ fn take_turn<B: WorkBrand, W: LeafWork>(
     ensures spent { IfOk result (λ _. core.old.spent ≡ false) }
     ensures over { IfOk result (λ over. over ≡ is_over_in core.new) }
 {
+    if core.is_certainly_idle(worker) {
+        return Ok(false);
+    }
     core.advance(worker, work)?;
     Ok(core.is_over())
 }

@@ -1,5 +1,5 @@
 //! The scheduler's core: a job, its workers, and the turns that run it.
-ghost use Rattle.std.specs.Prelude.{◌≡◌, ◌<◌, ◌≤◌, ℕ, IfOk, IfErr, IsSome, IfSome, MatchOption, Some, true, false, map};
+ghost use Rattle.std.specs.Prelude.{◌≡◌, ◌<◌, ◌≤◌, ℕ, IfOk, IfErr, IsSome, IfSome, MatchOption, Some, None, true, false, IsTrue, map};
 ghost use Rattle.core_model.specs.State.{opening_core};
 ghost use Rattle.core_model.specs.Choice.{choice};
 ghost use Rattle.sp_order.specs.Jobs.{job_tree};
@@ -114,6 +114,19 @@ impl<B: WorkBrand> CoreWith<B> {
     {
         self.table
             .choose::<B, V>(self.alloc, &self.setting, worker, work)
+    }
+
+    /// Cheap check: true implies that the worker has no event; false says nothing.
+    ///
+    /// Memory: none.
+    #[inline(always)]
+    pub(crate) fn is_certainly_idle(&self, worker: u32) -> bool
+        requires worker_in { worker < self.now.workers }
+        ensures choice { IsTrue result
+            → choice (job_in_with B.work self.now) (state_in self.now) worker ≡ None }
+        ensures spent { IsTrue result → self.now.spent ≡ false }
+    {
+        !self.spent && self.table.is_certainly_idle::<B>(&self.setting, worker)
     }
 
     /// Performs an event that a worker has.

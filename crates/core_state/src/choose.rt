@@ -1,6 +1,6 @@
 //! The choice of a worker's turn: the event it can make in this state, if any. A leaf of work runs here, and nothing is
 //! written.
-ghost use Rattle.std.specs.Prelude.{◌≡◌, ◌<◌, IfOk};
+ghost use Rattle.std.specs.Prelude.{◌≡◌, ◌<◌, length, None, IfOk, IsTrue};
 ghost use Rattle.core_model.specs.Settings.{job_with};
 ghost use Rattle.core_model.specs.Choice.{choice, choice_by, choice_free};
 ghost use Rattle.core_state.specs.Abstraction.{state_of, core_state_of};
@@ -66,6 +66,35 @@ impl State {
             Status::Pending => Ok(self.choose_pending()),
             Status::Executing => Ok(None),
             Status::Served(receipt) => Ok(Some(Event::Leave(receipt))),
+        }
+    }
+
+    /// Cheap check: true implies that the worker has no event; false says nothing. True for an idle worker while all
+    /// ready lists are empty.
+    ///
+    /// Memory: none.
+    #[inline(always)]
+    #[tactic(auto, unfolding(crate::specs::Abstraction::state_of, crate::specs::Abstraction::ready_of))]
+    pub fn is_certainly_idle<B: WorkBrand>(&self, setting: &Setting, worker: u32) -> bool
+        requires worker_in { worker < setting.now.workers }
+        requires tasks_in { length self.now.tasks.items ≡ setting.now.workers }
+        requires statuses_in { length self.now.statuses.items ≡ setting.now.workers }
+        ensures { IsTrue result → choice (job_with B.work setting.now) (core_state_of self.now) worker ≡ None }
+    {
+        if !self.nothing_to_claim(setting.workers, worker) {
+            return false;
+        }
+        if let Some(hold) = &self.hold {
+            if hold.worker == worker {
+                return false;
+            }
+        }
+        match self.statuses[worker as usize] {
+            Status::Free => match self.tasks[worker as usize] {
+                Task::Idle => true,
+                _ => false,
+            },
+            _ => false,
         }
     }
 

@@ -1,5 +1,5 @@
 //! The choice of a worker that claims a node, the event of a next act, and the value of a leaf of work.
-ghost use Rattle.std.specs.Prelude.{ℕ, ◌≡◌, ◌<◌, ◌≤◌, Some, IfOk};
+ghost use Rattle.std.specs.Prelude.{ℕ, ◌≡◌, ◌<◌, ◌≤◌, None, Some, IfOk, IsTrue};
 ghost use Rattle.limits.specs.declared.TheConstants.{MOST_WORKERS};
 ghost use Rattle.core_model.specs.Next.{event_in, next_act};
 ghost use Rattle.core_model.specs.Operations.{number_from};
@@ -43,6 +43,15 @@ impl State {
         None
     }
 
+    /// Whether all ready lists are empty, so that an idle worker has nothing to claim.
+    #[inline(always)]
+    pub(crate) fn nothing_to_claim(&self, workers: u32, worker: u32) -> bool
+        ensures { IsTrue result
+            → claim_choice workers (ready_of self.now) worker (ready_of self.now worker) ≡ None }
+    {
+        self.ready.are_empty()
+    }
+
     /// The number of sides that have arrived at a parallel block.
     #[tactic(auto, unfolding(crate::specs::Abstraction::state_of))]
     fn mark_of(&self, parent: u32) -> u32
@@ -67,7 +76,8 @@ impl State {
         requires fits { Represents B.work setting.now self.now }
         requires works { (worker : ℕ) × IsAtWork (job_with B.work setting.now) (state_of self.now) worker leaf steps }
         requires meaning { V.meaning work.now ≡ B.work }
-        requires has { (number : ℕ) → number_from (state_of self.now).book steps ((job_with B.work setting.now).source leaf) ≡ Some number
+        requires has { (number : ℕ)
+            → number_from (state_of self.now).book steps ((job_with B.work setting.now).source leaf) ≡ Some number
             → V.has work.now number }
         ensures { IfOk result (λ value. (number : ℕ)
             → number_from (state_of self.now).book steps ((job_with B.work setting.now).source leaf) ≡ Some number

@@ -28,6 +28,7 @@ impl<T: Drop> ByNumber<T> {
     }
 
     /// Takes out the structure of a number, if there is one.
+    #[inline(always)]
     pub(crate) fn take(&mut self, number: u32) -> Option<T>
         ensures taken { result ≡ structure_at self.old number }
         ensures others { (other : ℕ) → structure_at self.new other
@@ -43,6 +44,7 @@ impl<T: Drop> ByNumber<T> {
     }
 
     /// Puts a structure in as that of a number.
+    #[inline(always)]
     pub(crate) fn put(&mut self, number: u32, structure: T) -> Result<(), AllocError>
         ensures { OnOk result ((other : ℕ) → structure_at self.new other
             ≡ (if other == number then Some structure else structure_at self.old other)) }

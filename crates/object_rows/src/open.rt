@@ -17,6 +17,7 @@ use seq_objects::{Batched, Call};
 use std::alloc::{AllocError, Global};
 
 /// Takes the structure of a number out, or makes it.
+#[inline(always)]
 pub(crate) fn taken_or_fresh<T: Batched, F: Fresh<T>>(
     alloc: Global,
     structures: &mut ByNumber<T>,

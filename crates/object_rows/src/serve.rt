@@ -37,7 +37,8 @@ fn serve_one<T: Batched, F: Fresh<T>>(
 }
 
 /// Serves the calls, and returns the replies in their order. Where they call one structure, its pieces run as they are
-/// cut; where they call several, those of each place run together. A structure is made at its first call.
+/// cut; where they call several, place by place, those of one place one after another. A structure is made at its first
+/// call.
 pub fn serve_row<T: Batched, F: Fresh<T>>(
     alloc: Global,
     row: &mut Row<T, T::Rest>,

@@ -4,13 +4,13 @@ use Rattle.std.specs.Prelude.{slice_get, Some}
 use Rattle.std.specs.List.{AllByRecursion}
 use Rattle.seq_objects.specs.Spin.{spin_of}
 use Rattle.seq_objects.specs.declared.op.Op.{Op}
-use Rattle.seq_objects.specs.declared.op.Op.TheVariants.{CounterAdd}
+use Rattle.seq_objects.specs.declared.op.Op.TheVariants.{CounterAdd, TreeRemove}
 use Rattle.seq_objects.specs.declared.act.Act.{Act}
 use Rattle.seq_objects.specs.declared.act.Act.TheVariants.{Work, Call}
 use Rattle.seq_objects.specs.Objects.{argument_of}
 use Rattle.sp_order.specs.Jobs.{JobValue}
 use Rattle.sp_order.specs.Objects.{AreUnnamed}
-use Rattle.sp_order.specs.Phases.{ComesBefore, HasNoSources, FillsFirst}
+use Rattle.sp_order.specs.Phases.{ComesBefore, HasNoSources, others, filling_verbs, FillsFirst}
 use Rattle.sp_order.specs.Totals.{added, pushes, pushed, pops, queue_inserts, queue_inserted, queue_takes, tree_inserts, tree_removes, tree_finds, finds_in, keys_inserted, count_of_act, total}
 use Rattle.batch_history.specs.Book.{flat}
 use Rattle.batch_history.specs.Lawful.{Lawful}
@@ -54,6 +54,16 @@ small_sum count less (act ∷ acts) small = step act small.0 (small_sum count le
       → count_of_act count a + total count acts ≤ length (act ∷ acts) * 2 ^ 32
   step (Work steps) bound rest = omega (arith, rest)
   step (Call op) bound rest = omega (arith, bound, rest, less op)
+
+-- a removal is by another verb than those that fill
+removes_others : (op : Op) → tree_removes op ≤ others filling_verbs op
+removes_others (TreeRemove number key) = omega arith
+removes_others _ = omega arith
+
+none_other : (acts : List Act) → total (others filling_verbs) acts ≡ 0 → total tree_removes acts ≡ 0
+none_other [] none = refl
+none_other (Work steps ∷ acts) none = omega (arith, none_other acts (omega (arith, none)))
+none_other (Call op ∷ acts) none = omega (arith, none, removes_others op, none_other acts (omega (arith, none)))
 
 module _ (job : JobValue) (workers : ℕ) (report : Report) (lawful : Lawful job workers report) (none : HasNoSources job) where
   abbrev entries : List Entry
@@ -111,10 +121,12 @@ module _ (job : JobValue) (workers : ℕ) (report : Report) (lawful : Lawful job
       (say, found_are (keys_inserted job.acts) entries say ∙ totals (finds_in (keys_inserted job.acts)))
 
   pub tally_is : FillsFirst job → tally_of entries ≡ tally_of_acts job.acts
-  tally_is fills = same_tally (tally_of entries) (tally_of_acts job.acts)
+  tally_is fills =
+      let kept = none_other job.acts fills.verbs in
+      same_tally (tally_of entries) (tally_of_acts job.acts)
       (count_is entries ∙ totals (λ op. 1)) (counter_is fills.unnamed)
       (totals pushes) (stack_is fills.unnamed fills.stack fills.empties_stack).1
-      (keys_count fills.unnamed fills.keeps_keys) (finds_are fills.unnamed fills.keeps_keys fills.tree).1
+      (keys_count fills.unnamed kept) (finds_are fills.unnamed kept fills.tree).1
       (totals queue_inserts) (queue_is fills.unnamed fills.queue fills.empties_queue).1
 
   pub lines_are : (seed size : ℕ) → FillsFirst job → summary_of_report seed size report ≡ summary_of_job seed size workers job

@@ -6,15 +6,16 @@ use Rattle.seq_objects.specs.declared.op.Op.{Op}
 use Rattle.seq_objects.specs.declared.op.Op.TheVariants.{CounterAdd, Push, TreeInsert, PqInsert}
 use Rattle.seq_objects.specs.Objects.{argument_of, number_of}
 use Rattle.seq_objects.proofs.Elements.{each_so}
-use Rattle.sp_order.specs.Totals.{pops, tree_removes, tree_finds, queue_takes}
+use Rattle.sp_order.specs.Phases.{others, filling_verbs}
+use Rattle.sp_order.specs.Totals.{pops, tree_finds, queue_takes}
 use Rattle.job_writer.proofs.WriterLemmas.Sources.{each_get}
 use Rattle.job_writer.specs.Code.Draws.{HaveSmallKeys}
 use Rattle.job_writer.specs.Generator.{next_number, op_drawn, growing_ops}
 
--- an operation that inserts: it neither removes nor queries, its argument is small, and its object has the number 0
+-- an operation that inserts: it neither empties nor queries, its argument is small, and its object has the number 0
 pub record Grows (op : Op) : Type 0 where
+  pub fills : others filling_verbs op ≡ 0
   pub pops : pops op ≡ 0
-  pub removes : tree_removes op ≡ 0
   pub finds : tree_finds op ≡ 0
   pub takes : queue_takes op ≡ 0
   pub number : number_of op ≡ 0
@@ -22,10 +23,10 @@ pub record Grows (op : Op) : Type 0 where
 
 chosen : (first second third : Bool) (argument : ℕ) → argument < 65536
     → Grows (if first then CounterAdd 0 argument else if second then Push 0 argument else if third then TreeInsert 0 argument else PqInsert 0 argument)
-chosen true _ _ argument small = record { pops = refl; removes = refl; finds = refl; takes = refl; number = refl; small = small }
-chosen false true _ argument small = record { pops = refl; removes = refl; finds = refl; takes = refl; number = refl; small = small }
-chosen false false true argument small = record { pops = refl; removes = refl; finds = refl; takes = refl; number = refl; small = small }
-chosen false false false argument small = record { pops = refl; removes = refl; finds = refl; takes = refl; number = refl; small = small }
+chosen true _ _ argument small = record { fills = refl; pops = refl; finds = refl; takes = refl; number = refl; small = small }
+chosen false true _ argument small = record { fills = refl; pops = refl; finds = refl; takes = refl; number = refl; small = small }
+chosen false false true argument small = record { fills = refl; pops = refl; finds = refl; takes = refl; number = refl; small = small }
+chosen false false false argument small = record { fills = refl; pops = refl; finds = refl; takes = refl; number = refl; small = small }
 
 drawn_grows : (number : ℕ) → Grows (op_drawn number)
 drawn_grows number =

@@ -10,8 +10,8 @@ use Rattle.seq_objects.specs.declared.op.Op.TheVariants.{Pop, TreeFind, PqTake}
 use Rattle.seq_objects.specs.Objects.{argument_of}
 use Rattle.seq_objects.specs.declared.act.Act.TheVariants.{Call}
 use Rattle.sp_order.specs.Precedence.{Tree, leaf, seq, par, leaves, leaf_count, IsBefore, IsBeforeFrom}
-use Rattle.sp_order.specs.Totals.{pushes, pops, tree_inserts, tree_removes, tree_finds, queue_inserts, queue_takes, total}
-use Rattle.sp_order.specs.Phases.{ComesBefore, FillsFirst}
+use Rattle.sp_order.specs.Totals.{pushes, pops, tree_inserts, tree_finds, queue_inserts, queue_takes, total}
+use Rattle.sp_order.specs.Phases.{ComesBefore, others, filling_verbs, FillsFirst}
 use Rattle.job_lang.specs.Joins.{half, both, join_within, join_of}
 use Rattle.job_writer.specs.Generator.{growing_ops, finds_for, calls, pops_for, takes_for, part, all_ops, job_growing_by, generated}
 use Rattle.job_writer.proofs.GeneratorLemmas.Sources.{none_each}
@@ -132,6 +132,7 @@ module _ (ops : List Op) (some : 0 < length ops) (grow : AllByRecursion Grows op
 
   pub fills_first : FillsFirst (job_growing_by ops)
   fills_first = record {
+    verbs = total_first (others filling_verbs) (later_lacks (others filling_verbs) (λ key. refl) refl refl) ∙ total_lacks (others filling_verbs) ops (first_lacks (others filling_verbs) (λ op grows. grows.fills));
     stack = comes_before pushes pops (later_lacks pushes (λ key. refl) refl refl) (first_lacks pops (λ op grows. grows.pops));
     queue = comes_before queue_inserts queue_takes (later_lacks queue_inserts (λ key. refl) refl refl) (first_lacks queue_takes (λ op grows. grows.takes));
     tree = comes_before tree_inserts tree_finds (later_lacks tree_inserts (λ key. refl) refl refl) (first_lacks tree_finds (λ op grows. grows.finds));
@@ -139,7 +140,6 @@ module _ (ops : List Op) (some : 0 < length ops) (grow : AllByRecursion Grows op
         omega (arith, total_first pushes (later_lacks pushes (λ key. refl) refl refl), total_all pops, total_later pops, total_copies pops (total pushes (calls ops) + 1) (Pop 0) refl);
     empties_queue =
         omega (arith, total_first queue_inserts (later_lacks queue_inserts (λ key. refl) refl refl), total_all queue_takes, total_later queue_takes, total_copies queue_takes (total queue_inserts (calls ops) + 1) (PqTake 0) refl);
-    keeps_keys = total_first tree_removes (later_lacks tree_removes (λ key. refl) refl refl) ∙ total_lacks tree_removes ops (first_lacks tree_removes (λ op grows. grows.removes));
     no_sources = none_each (length (calls (all_ops ops)));
     unnamed = all_unnamed ops (first_ops ops grow);
   }

@@ -5,7 +5,8 @@ use Rattle.seq_objects.specs.declared.op.Op.TheVariants.{CounterAdd}
 use Rattle.seq_objects.specs.declared.call.Call.{Call}
 use Rattle.seq_objects.specs.declared.reply.Reply.{Reply}
 use Rattle.seq_objects.specs.Objects.{Objects, after, reply_to}
-use Rattle.seq_objects.specs.Batches.{Kind, Counter, Stack, Tree, Queue, AreOf, kind_of, same_kind, calls_of}
+use Rattle.seq_objects.specs.Verbs.{Counter, Stack, Tree, Queue}
+use Rattle.seq_objects.specs.Batches.{Kind, AreOf, kind_of, same_kind, calls_of}
 use Rattle.seq_objects.specs.Serial.{after_all, replies_to_all, alone, with_kind, replies_of, after_by_kind}
 use Rattle.seq_objects.proofs.Verbs.{same_is, same_self}
 

@@ -7,7 +7,7 @@ use Rattle.seq_objects.specs.Objects.{number_of}
 use Rattle.seq_objects.specs.BatchOrder.{ComesFirst}
 use Rattle.seq_objects.specs.Pairs.{AllPairsByRecursion, AreDistinct}
 -- the kinds, and the kind of the object that an operation belongs to
-pub use Rattle.seq_objects.specs.Verbs.{Kind, Counter, Stack, Tree, Queue, same_kind}
+pub use Rattle.seq_objects.specs.Verbs.{Kind, same_kind}
 pub use Rattle.seq_objects.specs.Parts.{kind_of}
 
 -- each call precedes each later one in the batch order

@@ -3,7 +3,8 @@ use Rattle.std.specs.Prelude.{ℕ, if◌then◌else◌, List, [], ◌∷◌}
 use Rattle.seq_objects.specs.declared.call.Call.{Call}
 use Rattle.seq_objects.specs.declared.reply.Reply.{Reply}
 use Rattle.seq_objects.specs.Objects.{Objects, opening, after, reply_to}
-use Rattle.seq_objects.specs.Batches.{Kind, Counter, Stack, Tree, Queue, kind_of, same_kind, calls_of}
+use Rattle.seq_objects.specs.Verbs.{Counter, Stack, Tree, Queue}
+use Rattle.seq_objects.specs.Batches.{Kind, kind_of, same_kind, calls_of}
 
 -- the objects after the calls
 abbrev pub after_all : Objects → List Call → Objects

@@ -34,8 +34,8 @@ impl Plain {
 
     /// Serves one operation.
     ///
-    /// Memory: `Push`, `TreeInsert` and `PqInsert` allocate, and so does a `CounterAdd` on a counter with a number above
-    /// 0 that is 0.
+    /// Memory: for an item that is put in, and for the objects of a number above 0 at the first operation that may change
+    /// them.
     pub fn serve(&mut self, op: Op) -> Result<Reply, AllocError>
         requires { StoreCanServe (store_in self.old) op }
         ensures reply { IfOk result (λ reply. reply ≡ store_reply (store_in self.old) op) }

@@ -23,8 +23,8 @@ use two_deques::{Decks, Hand, Rooms, Tries};
 
 /// The pushes that a deque of pieces is sure to take for each leaf that calls. A launch pushes each piece of its batch
 /// once, on the launcher's own deque. A batch that calls a queue has a piece for each of the eight shards, however few
-/// its calls are; of a counter, a stack or a tree, it has at most one piece for each call. So the batches of a run never
-/// have more pieces than this many for each call, and no push of a piece is refused.
+/// its calls are; of any other structure it has at most one piece for each call. So the batches of a run never have more
+/// pieces than this many for each call, and no push of a piece is refused.
 pub const PUSHES_A_CALL: u32 = 8;
 
 /// The number of leaves whose act is a call.

@@ -1,5 +1,4 @@
 pub mod Placing
-pub mod Meeting
 pub mod Outs
 pub mod Ascending
 pub mod Rows

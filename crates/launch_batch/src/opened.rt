@@ -13,6 +13,7 @@ use crate::outs::{Outs, sort_outs};
 use crate::piece::PieceOut;
 use crate::row::close;
 use crate::shop::Shop;
+use crate::spare::emptied;
 use crate::structures::Structures;
 use batch_history::{Batch, History};
 use batched_counter::Counter;
@@ -32,6 +33,17 @@ pub struct Opened {
 }
 
 impl Opened {
+    /// An empty vector for the outs of the pieces. It has the room of the one that was kept last.
+    ///
+    /// Memory: none.
+    pub fn spare_outs(&mut self, alloc: Global) -> Vec<PieceOut>
+        ensures empty { result.items ≡ [] }
+        ensures same { (o : BatchContext (List (List EntryOf)) Input) → IsContextOf self.old o
+            → IsContextOf self.new o }
+    {
+        emptied(alloc, &mut self.structures.spare.outs)
+    }
+
     /// Closes the structures with the outs of each kind, and returns the shop after the batch.
     pub(crate) fn into_shop(self, alloc: Global, outs: &mut Outs) -> Result<Shop, AllocError>
         requires { (o : BatchContext (List (List EntryOf)) Input) × IsContextOf self o
@@ -59,14 +71,15 @@ impl Opened {
         close::<Stack>(alloc, &mut inner.stack, all, &mut outs.stack, &mut replies)?;
         close::<TreeSet>(alloc, &mut inner.tree, all, &mut outs.tree, &mut replies)?;
         close::<Queue>(alloc, &mut inner.queue, all, &mut outs.queue, &mut replies)?;
-        let shop = commit(alloc, structures, history, all, replies.as_slice())?;
+        let mut shop = commit(alloc, structures, history, all, replies.as_slice())?;
+        shop.keep_calls(calls);
         Ok(shop)
     }
 
     /// Ends a batch, given an out for each piece, in piece order. Returns the shop, whose history has one more batch,
     /// and that batch: exactly the given calls, in batch order, with the replies of serving them one after another. The
     /// shop is lost if memory runs out.
-    pub fn end(self, alloc: Global, outs: Vec<PieceOut>) -> Result<(Shop, Batch), AllocError>
+    pub fn end(self, alloc: Global, mut outs: Vec<PieceOut>) -> Result<(Shop, Batch), AllocError>
         requires { (o : BatchContext (List (List EntryOf)) Input) × IsContextOf self o
             × AllMeet Meets o.ins outs.items }
         ensures batch { IfOk result (λ p. (o : BatchContext (List (List EntryOf)) Input) → IsContextOf self o
@@ -75,8 +88,9 @@ impl Opened {
             → AllMeet Meets o.ins outs.items → p.0 ≡ o.before ++ p.1 ∷ []) }
     {
         let mut apart = Outs::new();
-        sort_outs(alloc, outs, &mut apart)?;
-        let shop = self.into_shop(alloc, &mut apart)?;
+        sort_outs(alloc, &mut outs, &mut apart)?;
+        let mut shop = self.into_shop(alloc, &mut apart)?;
+        shop.keep_outs(outs);
         let batch = last_batch(alloc, shop.history())?;
         Ok((shop, batch))
     }

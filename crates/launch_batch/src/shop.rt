@@ -12,8 +12,11 @@ ghost use Rattle.launch_batch.specs.Contexts.{IsContextOf};
 
 use crate::opened::Opened;
 use crate::order::put_in_batch_order;
-use crate::piece::{FIRST_OF_COUNTERS, FIRST_OF_QUEUES, FIRST_OF_STACKS, FIRST_OF_TREES, PieceIn};
+use crate::piece::{
+    FIRST_OF_COUNTERS, FIRST_OF_QUEUES, FIRST_OF_STACKS, FIRST_OF_TREES, PieceIn, PieceOut,
+};
 use crate::row::open;
+use crate::spare::{Spare, emptied};
 use crate::structures::Structures;
 use batch_history::History;
 use batched_counter::Counter;
@@ -54,6 +57,7 @@ impl Shop {
             stack: Row::new(alloc),
             tree: Row::new(alloc),
             queue: Row::new(alloc),
+            spare: Spare::new(alloc),
         };
         Ok(Shop {
             structures: Box::new(alloc, structures)?,
@@ -77,6 +81,34 @@ impl Shop {
         ensures { result ≡ self }
     {
         self.history
+    }
+
+    /// An empty vector for the calls of a batch. It has the room of the one that was kept last.
+    ///
+    /// Memory: none.
+    pub fn spare_calls(&mut self, alloc: Global) -> Vec<Call>
+        ensures empty { result.items ≡ [] }
+        ensures same { self.new ≡ self.old }
+    {
+        emptied(alloc, &mut self.structures.spare.calls)
+    }
+
+    /// Keeps a vector for the calls of a later batch. Its items are lost.
+    ///
+    /// Memory: none.
+    pub fn keep_calls(&mut self, calls: Vec<Call>)
+        ensures { self.new ≡ self.old }
+    {
+        self.structures.spare.calls = calls;
+    }
+
+    /// Keeps a vector for the outs of a later batch. Its items are lost.
+    ///
+    /// Memory: none.
+    pub(crate) fn keep_outs(&mut self, outs: Vec<PieceOut>)
+        ensures { self.new ≡ self.old }
+    {
+        self.structures.spare.outs = outs;
     }
 
     /// Opens a batch of these calls, given in any order. Each called structure gets pieces, at places in its kind's

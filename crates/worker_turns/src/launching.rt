@@ -48,22 +48,23 @@ fn take_pending<B: WorkBrand>(table: &CoreTable<B>, pass: &mut Pass, u: u32) -> 
     })
 }
 
-/// Looks at each worker once, in order from 0, and takes each call that is pending at its look.
+/// Looks at each worker once, in order from 0, and takes each call that is pending at its look. Returns the calls in the
+/// vector that is given, which is empty.
 fn collect_pending<B: WorkBrand>(
-    alloc: Global,
     table: &CoreTable<B>,
     pass: &mut Pass,
     workers: u32,
+    mut calls: Vec<Call>,
 ) -> Result<Vec<Call>, Stop>
     requires pass { IsPassOf table.now pass.old }
+    requires empty { calls.items ≡ [] }
     requires won { Holds IsNewHold (pass_view pass.old).hold }
     requires workers { workers ≡ (job_in table.now).workers }
     ensures pass { IsPassOf table.now pass.new }
-    ensures looked { IfOk result (λ calls. HasLooked workers calls.items (pass_view pass.old) (pass_view pass.new)) }
+    ensures looked { IfOk result (λ taken. HasLooked workers taken.items (pass_view pass.old) (pass_view pass.new)) }
     ensures fit { IfOk result (λ _. Holds AreFit (pass_view pass.new).hold) }
     ensures failed { IfErr result (λ stop. stop ≡ Memory) }
 {
-    let mut calls = Vec::with_capacity(alloc, workers as usize)?;
     for u in 0..workers {
         if let Some(call) = take_pending(table, pass, u) {
             calls.push(call)?;
@@ -110,8 +111,9 @@ fn serve_batch<G: Pause, B: WorkBrand, W: LeafWork, R: Wait>(
     ensures stopped { IfErr result (λ stop. IsStop stop (pass_view me.old.pass) (pass_view me.new.pass)) }
 {
     let number = shop.history().batches().len();
-    let (opened, ins) = shop.begin(alloc, calls)?;
-    let outs = serve_pieces(rt, alloc, crew, me, ins)?;
+    let (mut opened, ins) = shop.begin(alloc, calls)?;
+    let room = opened.spare_outs(alloc);
+    let outs = serve_pieces(rt, alloc, crew, me, ins, room)?;
     let (shop, batch) = opened.end(alloc, outs)?;
     crew.table.publish(&mut me.pass, batch);
     let entries = shop.history().batches()[number].entries();
@@ -126,7 +128,7 @@ pub fn launch<G: Pause, B: WorkBrand, W: LeafWork, R: Wait>(
     alloc: Global,
     crew: &Crew<G, B, W>,
     me: &mut Me,
-    shop: Shop,
+    mut shop: Shop,
 ) -> Result<(), Stop>
     requires me { IsMeOf crew.now me.old }
     requires free { (desk_view me.old.desk).posted ≡ [] }
@@ -137,8 +139,10 @@ pub fn launch<G: Pause, B: WorkBrand, W: LeafWork, R: Wait>(
         (me_seen me.old) (me_seen me.new)) }
     ensures stopped { IfErr result (λ stop. IsStop stop (pass_view me.old.pass) (pass_view me.new.pass)) }
 {
-    let calls = collect_pending(alloc, &crew.table, &mut me.pass, crew.workers)?;
+    let room = shop.spare_calls(alloc);
+    let calls = collect_pending(&crew.table, &mut me.pass, crew.workers, room)?;
     if calls.is_empty() {
+        shop.keep_calls(calls);
         crew.table.release(&mut me.pass, shop);
         return Ok(());
     }

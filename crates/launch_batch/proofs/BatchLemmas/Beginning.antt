@@ -1,6 +1,6 @@
 -- The facts at the opening of a batch.
 use Rattle.std.proofs.Common.{ℕ, ◌≡◌, ◌==◌, ◌<◌, ◌+◌, List, [], length, map, None, refl, ap, sym, subst, ◌∙◌, arith, append-nil}
-use Rattle.launch_batch.proofs.Words.{AllByRecursion, Call, number_of, AreDistinct, Kind, Counter, Stack, Tree, Queue, AreInBatchOrder, AreOneBatch, kind_of, same_kind, calls_of, calls_at, of_counter, Entry, MayServe, ArePermutations, IsNarrow, Members, Objects, Reply, opening, alone, served_book, BatchContext, store_of_kind, MatchesHistory, PieceIn}
+use Rattle.launch_batch.proofs.Words.{AllByRecursion, Call, number_of, AreDistinct, Kind, Counter, AreInBatchOrder, AreOneBatch, kind_of, same_kind, calls_of, calls_at, of_counter, Entry, MayServe, ArePermutations, IsNarrow, Members, Objects, Reply, opening, alone, served_book, BatchContext, store_of_kind, MatchesHistory, PieceIn}
 use Rattle.seq_objects.specs.Batches.{AreOf}
 use Rattle.seq_objects.proofs.Filters.{are_of}
 use Rattle.object_rows.specs.declared.row.Row.{Row}
@@ -15,7 +15,7 @@ use Rattle.launch_batch.specs.Contents.{ShopInvariant}
 use Rattle.launch_batch.specs.Code.Committing.{ServesOwn}
 use Rattle.launch_batch.specs.Code.Rows.{OpensOwn}
 use Rattle.launch_batch.proofs.ListLemmas.Same.{each_same, distinct_same, length_same}
-use Rattle.launch_batch.proofs.MergeLemmas.Dealing.{few_pass, all_by_kind}
+use Rattle.launch_batch.proofs.MergeLemmas.Dealing.{few_pass}
 use Rattle.launch_batch.proofs.BatchLemmas.Serial.{total_small}
 use Rattle.key_sets.proofs.Filters.{all_filter}
 
@@ -53,14 +53,6 @@ may_add structures book calls ordered i may same narrow number counter is = reco
       let room = i.room number in
       omega (arith, small, few, fewer, many, most, now, room);
 }
-
--- some kind has a call
-pub some_by_kind : (calls ordered : List Call) → ArePermutations calls ordered → 0 < length calls
-    → 0 < length (calls_of Counter ordered) + length (calls_of Stack ordered) + length (calls_of Tree ordered) + length (calls_of Queue ordered)
-some_by_kind calls ordered same some =
-    let n = some_same calls ordered same some in
-    let all = all_by_kind ordered in
-    omega (arith, n, all)
 
 opening_alone : (kind : Kind) → opening ≡ alone kind opening
 opening_alone Counter = refl

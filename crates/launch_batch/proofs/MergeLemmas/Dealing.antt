@@ -1,5 +1,5 @@
 -- The calls of one kind among those of a batch.
-use Rattle.std.proofs.Common.{◌≡◌, ◌+◌, ◌≤◌, Bool, true, false, cond, List, [], ◌∷◌, length, filter, refl, ap, arith}
+use Rattle.std.proofs.Common.{◌≡◌, ◌+◌, ◌<◌, ◌≤◌, Bool, true, false, cond, List, [], ◌∷◌, length, filter, refl, ap, arith}
 use Rattle.launch_batch.proofs.Words.{Call, Kind, Counter, Stack, Tree, Queue, kind_of, same_kind, calls_of}
 
 -- those that pass are at most as many as all together
@@ -20,7 +20,7 @@ all_pass passes (call ∷ calls) long = step (passes call) (few_pass passes call
   step false few rest long = absurd (omega (arith, few, long))
 
 -- each call belongs to one of the four kinds
-pub all_by_kind : (calls : List Call) → length calls ≡ length (calls_of Counter calls) + length (calls_of Stack calls) + length (calls_of Tree calls) + length (calls_of Queue calls)
+all_by_kind : (calls : List Call) → length calls ≡ length (calls_of Counter calls) + length (calls_of Stack calls) + length (calls_of Tree calls) + length (calls_of Queue calls)
 all_by_kind [] = refl
 all_by_kind (call ∷ calls) = step (kind_of call.op) (all_by_kind calls) where
   step : (k : Kind) → length calls ≡ length (calls_of Counter calls) + length (calls_of Stack calls) + length (calls_of Tree calls) + length (calls_of Queue calls)
@@ -28,3 +28,8 @@ all_by_kind (call ∷ calls) = step (kind_of call.op) (all_by_kind calls) where
       + length (cond (same_kind Tree k) (call ∷ calls_of Tree calls) (calls_of Tree calls)) + length (cond (same_kind Queue k) (call ∷ calls_of Queue calls) (calls_of Queue calls))
   step Counter rest = omega (arith, rest)
   step _ rest = omega (arith, rest)
+
+-- where there is a call, some kind has one
+pub some_by_kind : (calls : List Call) → 0 < length calls
+    → 0 < length (calls_of Counter calls) + length (calls_of Stack calls) + length (calls_of Tree calls) + length (calls_of Queue calls)
+some_by_kind calls some = let all = all_by_kind calls in omega (arith, some, all)

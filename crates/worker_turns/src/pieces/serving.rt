@@ -129,21 +129,23 @@ fn collect_one<G: Pause, B: WorkBrand, W: LeafWork, R: Wait>(
     unreachable!()
 }
 
-/// Collects the results of the worker's own row, in the order of `places`.
+/// Collects the results of the worker's own row, in the order of `places`, into `outs`, which is empty.
 fn collect_all<G: Pause, B: WorkBrand, W: LeafWork, R: Wait>(
     rt: &R,
     alloc: Global,
     crew: &Crew<G, B, W>,
     me: &mut Me,
     places: &[u32],
+    mut outs: Vec<PieceOut>,
 ) -> Result<Vec<PieceOut>, Stop>
     requires me { IsMeOf crew.now me.old }
+    requires empty { outs.items ≡ [] }
     requires posted { (ins : List Input) × (places.now ≡ map place_of ins)
         × ((desk_view me.old.desk).posted ≡ map with_place ins) × AllByRecursion (λ input. place_of input < PLACES) ins }
     ensures pass { IsPassOf crew.now.table me.new.pass }
     ensures me { IfOk result (λ _. IsMeOf crew.now me.new) }
-    ensures meet { IfOk result (λ outs. (ins : List Input)
-        → (desk_view me.old.desk).posted ≡ map with_place ins → AllMeet Meets ins outs.items) }
+    ensures meet { IfOk result (λ all. (ins : List Input)
+        → (desk_view me.old.desk).posted ≡ map with_place ins → AllMeet Meets ins all.items) }
     ensures desk { IfOk result (λ _. DrainsRow (length places.now) (desk_view me.old.desk) (desk_view me.new.desk)) }
     ensures stole { IfOk result (λ _. OnlyStole (held me.old.hand).batch (held me.new.hand).batch) }
     ensures waits { IfOk result (λ _. LooksWhileWaiting (me_seen me.old) (me_seen me.new)) }
@@ -151,7 +153,6 @@ fn collect_all<G: Pause, B: WorkBrand, W: LeafWork, R: Wait>(
     ensures seen { IfOk result (λ _. HasOnlyLooked (pass_view me.old.pass) (pass_view me.new.pass)) }
     ensures stopped { IfErr result (λ stop. IsStop stop (pass_view me.old.pass) (pass_view me.new.pass)) }
 {
-    let mut outs = Vec::with_capacity(alloc, places.len())?;
     for k in 0..places.len() {
         let out = collect_one(rt, alloc, crew, me, places[k])?;
         outs.push(out)?;
@@ -159,22 +160,24 @@ fn collect_all<G: Pause, B: WorkBrand, W: LeafWork, R: Wait>(
     Ok(outs)
 }
 
-/// Hands out the pieces of a batch, helps to run them, and collects their results.
+/// Hands out the pieces of a batch, helps to run them, and collects their results in `outs`, which is empty.
 pub(crate) fn serve_pieces<G: Pause, B: WorkBrand, W: LeafWork, R: Wait>(
     rt: &R,
     alloc: Global,
     crew: &Crew<G, B, W>,
     me: &mut Me,
     ins: Vec<PieceIn>,
+    outs: Vec<PieceOut>,
 ) -> Result<Vec<PieceOut>, Stop>
     requires me { IsMeOf crew.now me.old }
+    requires empty { outs.items ≡ [] }
     requires free { (desk_view me.old.desk).posted ≡ [] }
     requires few { length ins.items ≤ PLACES }
     requires below { AllByRecursion (λ input. place_of input < PLACES) ins.items }
     requires ascend { StrictlyAscends (map place_of ins.items) }
     ensures pass { IsPassOf crew.now.table me.new.pass }
     ensures me { IfOk result (λ _. IsMeOf crew.now me.new) }
-    ensures meet { IfOk result (λ outs. AllMeet Meets ins.items outs.items) }
+    ensures meet { IfOk result (λ all. AllMeet Meets ins.items all.items) }
     ensures desk { IfOk result (λ _.
         ExecutesPieces (map place_of ins.items) (desk_view me.old.desk) (desk_view me.new.desk)) }
     ensures handed { IfOk result (λ _.
@@ -186,5 +189,5 @@ pub(crate) fn serve_pieces<G: Pause, B: WorkBrand, W: LeafWork, R: Wait>(
 {
     let places = post_all(crew, me, ins)?;
     run_own(rt, alloc, crew, me)?;
-    collect_all(rt, alloc, crew, me, places.as_slice())
+    collect_all(rt, alloc, crew, me, places.as_slice(), outs)
 }

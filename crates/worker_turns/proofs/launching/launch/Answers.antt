@@ -15,7 +15,7 @@ release-requires-clause-due g c =
     let mid = pass_view c.collect_pending.new.pass in
     let is : HasLooked workers calls old mid = subst (λ (n : ℕ). HasLooked n calls old mid) c.args.crew.now.job c.in_ok-calls.ensures.looked in
     let none : length calls ≡ 0 = search (rules, c.is_empty.ensures, c.if-is_empty.true) in
-    none_release old mid workers calls c.args.shop c.requires.won is (no_call calls none)
+    rw (c.keep_calls.ensures, c.spare_calls-room.ensures.same) (none_release old mid workers calls c.args.shop c.requires.won is (no_call calls none))
 
 pub release-requires-2-clause-due : goal.release-requires-2-clause-due
 release-requires-2-clause-due g c =
@@ -27,7 +27,7 @@ release-requires-2-clause-due g c =
     let some : calls ≢ [] = search rules in
     let may = taken_serve old mid workers calls c.args.shop c.requires.won is c.in_ok-calls.ensures.fit some in
     served_release (record (me_seen c.args.me.now) { pass = mid }) _ workers calls c.args.shop c.in_ok-shop.shop
-    (has_taken old mid workers calls c.args.shop c.requires.won is) may c.in_ok-shop.ensures.batch
+    (has_taken old mid workers calls c.args.shop c.requires.won is) may (rw c.spare_calls-room.ensures.same at c.in_ok-shop.ensures.batch)
 
 pub returns-clause-launched : goal.returns-clause-launched
 returns-clause-launched g c =
@@ -39,7 +39,7 @@ returns-clause-launched g c =
     let some : calls ≢ [] = search rules in
     let may = taken_serve old mid workers calls c.args.shop c.requires.won is c.in_ok-calls.ensures.fit some in
     served_launched (me_seen c.args.me.now) _ mid (pass_view c.serve_batch.new.me.pass) workers calls c.args.shop c.in_ok-shop.shop c.requires.won may
-    is c.in_ok-shop.ensures.batch (own_of _ _ c.release-2.ensures.released)
+    is (rw c.spare_calls-room.ensures.same at c.in_ok-shop.ensures.batch) (own_of _ _ c.release-2.ensures.released)
 
 pub returns-then-is_empty-clause-launched : goal.returns-then-is_empty-clause-launched
 returns-then-is_empty-clause-launched g c =

@@ -37,6 +37,6 @@ commit-requires c =
 
 pub returns : goal.returns
 returns c = λ o r met.
-    rw (sym r.book) (c.in_ok-shop.ensures o.calls (rw (c.as_slice-all.ensures.value, c.as_slice.ensures.value)
+    rw (sym r.book, c.keep_calls.ensures) (c.in_ok-shop.ensures o.calls (rw (c.as_slice-all.ensures.value, c.as_slice.ensures.value)
     (have_served c.args.self o r c.args.outs.now met _ _ _ _ _ _ _ _ c.deref_mut-inner.ensures.value c.as_slice-all.ensures.value c.new-replies.ensures.items
     c.in_ok-close.ensures c.in_ok-close-2.ensures c.in_ok-close-3.ensures c.in_ok-close-4.ensures)))

@@ -4,10 +4,11 @@ use Rattle.batched_stack.specs.Pieces.{Cut as StackCut, IsContextOf as IsStackCo
 use Rattle.batched_tree.specs.Pieces.{Cut as TreeCut, IsContextOf as IsTreeContext}
 use Rattle.batched_pq.specs.Pieces.{Cut as QueueCut, IsContextOf as IsQueueContext}
 use Rattle.launch_batch.proofs.Words.{Counter, Stack, Tree, Queue, calls_of, of_counter, of_stack, of_set, of_bag, MatchesHistory, HasRoom}
+use Rattle.launch_batch.proofs.MergeLemmas.Dealing.{some_by_kind}
 use Rattle.launch_batch.proofs.PieceLemmas.Ascending.{some_rows}
 use Rattle.launch_batch.proofs.PieceLemmas.Rows.{in_rows}
 use Rattle.launch_batch.proofs.PieceLemmas.Counting.{rows_are}
-use Rattle.launch_batch.proofs.BatchLemmas.Beginning.{own_at, may_add, some_by_kind, cut_for, context_for}
+use Rattle.launch_batch.proofs.BatchLemmas.Beginning.{own_at, some_same, may_add, cut_for, context_for}
 use Rattle.launch_batch.proofs.shop.Shop.begin.Goals as goal
 
 pub open-requires-clause-may : goal.open-requires-clause-may
@@ -40,13 +41,13 @@ pub returns-clause-count : goal.returns-clause-count
 returns-clause-count c =
     (in_rows _ _ _ _ _ _ _ _ _ c.new-pieces.ensures.items c.in_ok-open.ensures.behind c.in_ok-open-2.ensures.behind c.in_ok-open-3.ensures.behind c.in_ok-open-4.ensures.behind
     c.in_ok-open.ensures.few c.in_ok-open-2.ensures.few c.in_ok-open-3.ensures.few c.in_ok-open-4.ensures.few (some_rows _ _ _ _ _ _ _ _ c.in_ok-open.ensures.some c.in_ok-open-2.ensures.some c.in_ok-open-3.ensures.some c.in_ok-open-4.ensures.some
-    (rw c.as_slice-all.ensures.value (some_by_kind c.args.calls.items c.put_in_batch_order.new.calls.items c.in_ok-put_in_batch_order.ensures.same c.requires.some)))).count
+    (rw c.as_slice-all.ensures.value (some_by_kind c.put_in_batch_order.new.calls.items (some_same c.args.calls.items c.put_in_batch_order.new.calls.items c.in_ok-put_in_batch_order.ensures.same c.requires.some))))).count
 
 pub returns-clause-below : goal.returns-clause-below
 returns-clause-below c =
     (in_rows _ _ _ _ _ _ _ _ _ c.new-pieces.ensures.items c.in_ok-open.ensures.behind c.in_ok-open-2.ensures.behind c.in_ok-open-3.ensures.behind c.in_ok-open-4.ensures.behind
     c.in_ok-open.ensures.few c.in_ok-open-2.ensures.few c.in_ok-open-3.ensures.few c.in_ok-open-4.ensures.few (some_rows _ _ _ _ _ _ _ _ c.in_ok-open.ensures.some c.in_ok-open-2.ensures.some c.in_ok-open-3.ensures.some c.in_ok-open-4.ensures.some
-    (rw c.as_slice-all.ensures.value (some_by_kind c.args.calls.items c.put_in_batch_order.new.calls.items c.in_ok-put_in_batch_order.ensures.same c.requires.some)))).below
+    (rw c.as_slice-all.ensures.value (some_by_kind c.put_in_batch_order.new.calls.items (some_same c.args.calls.items c.put_in_batch_order.new.calls.items c.in_ok-put_in_batch_order.ensures.same c.requires.some))))).below
 
 pub returns-clause-places : goal.returns-clause-places
 returns-clause-places c =
@@ -55,7 +56,7 @@ returns-clause-places c =
     let rows =
     in_rows _ _ _ _ _ _ _ _ _ c.new-pieces.ensures.items c.in_ok-open.ensures.behind c.in_ok-open-2.ensures.behind c.in_ok-open-3.ensures.behind c.in_ok-open-4.ensures.behind
     c.in_ok-open.ensures.few c.in_ok-open-2.ensures.few c.in_ok-open-3.ensures.few c.in_ok-open-4.ensures.few (some_rows _ _ _ _ _ _ _ _ c.in_ok-open.ensures.some c.in_ok-open-2.ensures.some c.in_ok-open-3.ensures.some c.in_ok-open-4.ensures.some
-    (rw c.as_slice-all.ensures.value (some_by_kind c.args.calls.items c.put_in_batch_order.new.calls.items c.in_ok-put_in_batch_order.ensures.same c.requires.some))) in (
+    (rw c.as_slice-all.ensures.value (some_by_kind c.put_in_batch_order.new.calls.items (some_same c.args.calls.items c.put_in_batch_order.new.calls.items c.in_ok-put_in_batch_order.ensures.same c.requires.some)))) in (
       ordered,
       c.in_ok-put_in_batch_order.ensures.same,
       c.in_ok-put_in_batch_order.ensures.batch.order,
@@ -74,13 +75,13 @@ pub returns-clause-rows : goal.returns-clause-rows
 returns-clause-rows c =
     (in_rows _ _ _ _ _ _ _ _ _ c.new-pieces.ensures.items c.in_ok-open.ensures.behind c.in_ok-open-2.ensures.behind c.in_ok-open-3.ensures.behind c.in_ok-open-4.ensures.behind
     c.in_ok-open.ensures.few c.in_ok-open-2.ensures.few c.in_ok-open-3.ensures.few c.in_ok-open-4.ensures.few (some_rows _ _ _ _ _ _ _ _ c.in_ok-open.ensures.some c.in_ok-open-2.ensures.some c.in_ok-open-3.ensures.some c.in_ok-open-4.ensures.some
-    (rw c.as_slice-all.ensures.value (some_by_kind c.args.calls.items c.put_in_batch_order.new.calls.items c.in_ok-put_in_batch_order.ensures.same c.requires.some)))).own
+    (rw c.as_slice-all.ensures.value (some_by_kind c.put_in_batch_order.new.calls.items (some_same c.args.calls.items c.put_in_batch_order.new.calls.items c.in_ok-put_in_batch_order.ensures.same c.requires.some))))).own
 
 pub returns-clause-ascend : goal.returns-clause-ascend
 returns-clause-ascend c =
     (in_rows _ _ _ _ _ _ _ _ _ c.new-pieces.ensures.items c.in_ok-open.ensures.behind c.in_ok-open-2.ensures.behind c.in_ok-open-3.ensures.behind c.in_ok-open-4.ensures.behind
     c.in_ok-open.ensures.few c.in_ok-open-2.ensures.few c.in_ok-open-3.ensures.few c.in_ok-open-4.ensures.few (some_rows _ _ _ _ _ _ _ _ c.in_ok-open.ensures.some c.in_ok-open-2.ensures.some c.in_ok-open-3.ensures.some c.in_ok-open-4.ensures.some
-    (rw c.as_slice-all.ensures.value (some_by_kind c.args.calls.items c.put_in_batch_order.new.calls.items c.in_ok-put_in_batch_order.ensures.same c.requires.some)))).ascend
+    (rw c.as_slice-all.ensures.value (some_by_kind c.put_in_batch_order.new.calls.items (some_same c.args.calls.items c.put_in_batch_order.new.calls.items c.in_ok-put_in_batch_order.ensures.same c.requires.some))))).ascend
 
 pub returns-clause-context : goal.returns-clause-context
 returns-clause-context c =
@@ -89,7 +90,7 @@ returns-clause-context c =
     let rows =
     in_rows _ _ _ _ _ _ _ _ _ c.new-pieces.ensures.items c.in_ok-open.ensures.behind c.in_ok-open-2.ensures.behind c.in_ok-open-3.ensures.behind c.in_ok-open-4.ensures.behind
     c.in_ok-open.ensures.few c.in_ok-open-2.ensures.few c.in_ok-open-3.ensures.few c.in_ok-open-4.ensures.few (some_rows _ _ _ _ _ _ _ _ c.in_ok-open.ensures.some c.in_ok-open-2.ensures.some c.in_ok-open-3.ensures.some c.in_ok-open-4.ensures.some
-    (rw c.as_slice-all.ensures.value (some_by_kind c.args.calls.items c.put_in_batch_order.new.calls.items c.in_ok-put_in_batch_order.ensures.same c.requires.some))) in
+    (rw c.as_slice-all.ensures.value (some_by_kind c.put_in_batch_order.new.calls.items (some_same c.args.calls.items c.put_in_batch_order.new.calls.items c.in_ok-put_in_batch_order.ensures.same c.requires.some)))) in
     record {
       book = c.self.view_is;
       given = record {

@@ -21,7 +21,7 @@ loop-k-init g c = record {
   waits = waits_none (me_seen c.args.me.now);
   seen = looked_none _;
   desk = works_none _;
-  meet = λ ins is. subst (λ (outs : List PieceOut). AllMeet Meets [] outs) (sym c.in_ok-outs.ensures.items) tt;
+  meet = λ ins is. subst (λ (outs : List PieceOut). AllMeet Meets [] outs) (sym c.requires.empty) tt;
   inside = omega arith;
 }
 

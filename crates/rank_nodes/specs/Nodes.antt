@@ -23,11 +23,10 @@ entries (Three' p size a k b m c) = entries a ++ k ∷ (entries b ++ m ∷ entri
 
 -- the number of node levels above the leaves, along the left edge
 abbrev pub depth : Tree → ℕ
-depth Empty = 0
-depth (Leaf b) = 0
 depth (Underfull' p size a k b m c) = depth a + 1
 depth (Two' p size a k b m c) = depth a + 1
 depth (Three' p size a k b m c) = depth a + 1
+depth _ = 0
 
 -- the number of entries, summed over the children: it does not read the stored sizes
 abbrev pub count : Tree → ℕ
@@ -81,32 +80,22 @@ IsTreeWithSplit d tree (Splits k right) = IsTree tree × IsTree right × (depth 
 
 -- a tree, except that the root may be underfull, with a single child
 abbrev pub IsLoose : Tree → Type 0
-IsLoose Empty = ⊤
-IsLoose (Leaf b) = IsTree (Leaf b)
 IsLoose (Underfull' p size a k b m c) = IsTree a
-IsLoose (Two' p size a k b m c) = IsTree (Two' p size a k b m c)
-IsLoose (Three' p size a k b m c) = IsTree (Three' p size a k b m c)
+IsLoose tree = IsTree tree
 
 -- the root has one or two children
 abbrev pub IsNarrow : Tree → Type 0
-IsNarrow Empty = ⊥
-IsNarrow (Leaf b) = ⊥
 IsNarrow (Underfull' p size a k b m c) = ⊤
 IsNarrow (Two' p size a k b m c) = ⊤
-IsNarrow (Three' p size a k b m c) = ⊥
+IsNarrow _ = ⊥
 
 -- the root has three children
 abbrev pub IsWide : Tree → Type 0
-IsWide Empty = ⊥
-IsWide (Leaf b) = ⊥
-IsWide (Underfull' p size a k b m c) = ⊥
-IsWide (Two' p size a k b m c) = ⊥
 IsWide (Three' p size a k b m c) = ⊤
+IsWide _ = ⊥
 
 -- the tree is empty or a single leaf
 abbrev pub IsLeaf : Tree → Type 0
 IsLeaf Empty = ⊤
 IsLeaf (Leaf b) = ⊤
-IsLeaf (Underfull' p size a k b m c) = ⊥
-IsLeaf (Two' p size a k b m c) = ⊥
-IsLeaf (Three' p size a k b m c) = ⊥
+IsLeaf _ = ⊥

@@ -22,11 +22,10 @@ keys (Three' p a k b m c) = keys a ++ k ∷ (keys b ++ m ∷ keys c)
 
 -- the number of node levels above the leaves, along the left edge
 abbrev pub depth : Tree → ℕ
-depth Empty = 0
-depth (Leaf b) = 0
 depth (Underfull' p a k b m c) = depth a + 1
 depth (Two' p a k b m c) = depth a + 1
 depth (Three' p a k b m c) = depth a + 1
+depth _ = 0
 
 -- balanced: each node has two or three children, which are trees of equal depth, and each leaf has at most `room` keys
 abbrev pub IsTree : Tree → Type 0
@@ -64,32 +63,22 @@ IsTreeWithSplit d tree (Splits k right) = IsTree tree × IsTree right × (depth 
 
 -- a balanced tree, except that the root may be underfull, with a single child
 abbrev pub IsLoose : Tree → Type 0
-IsLoose Empty = ⊤
-IsLoose (Leaf b) = IsTree (Leaf b)
 IsLoose (Underfull' p a k b m c) = IsTree a
-IsLoose (Two' p a k b m c) = IsTree (Two' p a k b m c)
-IsLoose (Three' p a k b m c) = IsTree (Three' p a k b m c)
+IsLoose tree = IsTree tree
 
 -- the root has one or two children
 abbrev pub IsNarrow : Tree → Type 0
-IsNarrow Empty = ⊥
-IsNarrow (Leaf b) = ⊥
 IsNarrow (Underfull' p a k b m c) = ⊤
 IsNarrow (Two' p a k b m c) = ⊤
-IsNarrow (Three' p a k b m c) = ⊥
+IsNarrow _ = ⊥
 
 -- the root has three children
 abbrev pub IsWide : Tree → Type 0
-IsWide Empty = ⊥
-IsWide (Leaf b) = ⊥
-IsWide (Underfull' p a k b m c) = ⊥
-IsWide (Two' p a k b m c) = ⊥
 IsWide (Three' p a k b m c) = ⊤
+IsWide _ = ⊥
 
 -- the tree is empty or a single leaf
 abbrev pub IsLeaf : Tree → Type 0
 IsLeaf Empty = ⊤
 IsLeaf (Leaf b) = ⊤
-IsLeaf (Underfull' p a k b m c) = ⊥
-IsLeaf (Two' p a k b m c) = ⊥
-IsLeaf (Three' p a k b m c) = ⊥
+IsLeaf _ = ⊥

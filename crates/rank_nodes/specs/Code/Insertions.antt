@@ -3,7 +3,7 @@ use Rattle.std.specs.Prelude.{◌≡◌, ℕ, ◌+◌, ◌≤◌, List, [], ◌�
 use Rattle.std.specs.declared.option.Option.{Option}
 use Rattle.rank_nodes.specs.declared.entry.Entry.{Entry}
 use Rattle.rank_nodes.specs.declared.node.Tree.{Tree}
-use Rattle.rank_nodes.specs.declared.node.Tree.TheVariants.{Empty, Leaf, Underfull', Two', Three'}
+use Rattle.rank_nodes.specs.declared.node.Tree.TheVariants.{Underfull', Two', Three'}
 use Rattle.rank_nodes.specs.declared.node.Split.{Split}
 use Rattle.rank_nodes.specs.declared.node.Split.TheVariants.{Fits, Splits}
 use Rattle.rank_nodes.specs.declared.insert.Outcome.{Outcome}
@@ -55,73 +55,56 @@ IsSpent (Splits j part) split old new = old ≤ new + 1
 
 -- the size stored in the root; 0 for a leaf
 abbrev pub kept_size : Tree → ℕ
-kept_size Empty = 0
-kept_size (Leaf b) = 0
 kept_size (Underfull' p size a k b m c) = size
 kept_size (Two' p size a k b m c) = size
 kept_size (Three' p size a k b m c) = size
+kept_size _ = 0
 
 -- a node that is a tree except for its stored size, which is too small by `added`
 abbrev pub HasGrown : ℕ → Tree → Type 0
-HasGrown added Empty = ⊥
-HasGrown added (Leaf b) = ⊥
-HasGrown added (Underfull' p size a k b m c) = ⊥
 HasGrown added (Two' p size a k b m c) =
     IsTree a × IsTree b × (depth b ≡ depth a) × (size + added ≡ count a + 1 + count b)
 HasGrown added (Three' p size a k b m c) =
     IsTree a × IsTree b × IsTree c × (depth b ≡ depth a) × (depth c ≡ depth a)
     × (size + added ≡ count a + 1 + count b + 1 + count c)
+HasGrown added _ = ⊥
 
 -- a node whose children are trees of equal depth, where `split` was split off its first child and the stored size is
 -- too small by `added`; the next two definitions say the same of the second and of the third child
 abbrev pub HasSplitFirst : ℕ → Split → Tree → Type 0
-HasSplitFirst added split Empty = ⊥
-HasSplitFirst added split (Leaf b) = ⊥
-HasSplitFirst added split (Underfull' p size a k b m c) = ⊥
 HasSplitFirst added split (Two' p size a k b m c) =
     IsTreeWithSplit (depth b) a split × IsTree b × (size + added ≡ split_count a split + 1 + count b)
 HasSplitFirst added split (Three' p size a k b m c) =
     IsTreeWithSplit (depth b) a split × IsTree b × IsTree c × (depth c ≡ depth b)
     × (size + added ≡ split_count a split + 1 + count b + 1 + count c)
+HasSplitFirst added split _ = ⊥
 
 abbrev pub HasSplitSecond : ℕ → Split → Tree → Type 0
-HasSplitSecond added split Empty = ⊥
-HasSplitSecond added split (Leaf b) = ⊥
-HasSplitSecond added split (Underfull' p size a k b m c) = ⊥
 HasSplitSecond added split (Two' p size a k b m c) =
     IsTree a × IsTreeWithSplit (depth a) b split × (size + added ≡ count a + 1 + split_count b split)
 HasSplitSecond added split (Three' p size a k b m c) =
     IsTree a × IsTreeWithSplit (depth a) b split × IsTree c × (depth c ≡ depth a)
     × (size + added ≡ count a + 1 + split_count b split + 1 + count c)
+HasSplitSecond added split _ = ⊥
 
 abbrev pub HasSplitThird : ℕ → Split → Tree → Type 0
-HasSplitThird added split Empty = ⊥
-HasSplitThird added split (Leaf b) = ⊥
-HasSplitThird added split (Underfull' p size a k b m c) = ⊥
-HasSplitThird added split (Two' p size a k b m c) = ⊥
 HasSplitThird added split (Three' p size a k b m c) =
     IsTree a × IsTree b × (depth b ≡ depth a) × IsTreeWithSplit (depth a) c split
     × (size + added ≡ count a + 1 + count b + 1 + split_count c split)
+HasSplitThird added split _ = ⊥
 
 -- the entries of a node with those of `split` after its first child; the next two do the same for the second and the
 -- third
 abbrev pub with_first_split : Split → Tree → List Entry
-with_first_split split Empty = []
-with_first_split split (Leaf b) = []
-with_first_split split (Underfull' p size a k b m c) = []
 with_first_split split (Two' p size a k b m c) = with_split a split ++ k ∷ entries b
 with_first_split split (Three' p size a k b m c) = with_split a split ++ k ∷ (entries b ++ m ∷ entries c)
+with_first_split split _ = []
 
 abbrev pub with_second_split : Split → Tree → List Entry
-with_second_split split Empty = []
-with_second_split split (Leaf b) = []
-with_second_split split (Underfull' p size a k b m c) = []
 with_second_split split (Two' p size a k b m c) = entries a ++ k ∷ with_split b split
 with_second_split split (Three' p size a k b m c) = entries a ++ k ∷ (with_split b split ++ m ∷ entries c)
+with_second_split split _ = []
 
 abbrev pub with_third_split : Split → Tree → List Entry
-with_third_split split Empty = []
-with_third_split split (Leaf b) = []
-with_third_split split (Underfull' p size a k b m c) = []
-with_third_split split (Two' p size a k b m c) = []
 with_third_split split (Three' p size a k b m c) = entries a ++ k ∷ (entries b ++ m ∷ with_split c split)
+with_third_split split _ = []

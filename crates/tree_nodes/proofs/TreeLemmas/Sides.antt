@@ -1,7 +1,7 @@
 -- Siblings, one of which may be underfull.
 use Rattle.std.proofs.Common.{◌≡◌, true, false}
 use Rattle.tree_nodes.specs.declared.node.Tree.{Tree}
-use Rattle.tree_nodes.specs.declared.node.Tree.TheVariants.{Empty, Leaf, Underfull', Two', Three'}
+use Rattle.tree_nodes.specs.declared.node.Tree.TheVariants.{Empty, Underfull'}
 use Rattle.tree_nodes.specs.Nodes.{IsTree, IsLoose}
 use Rattle.key_sets.proofs.KeyLemmas.Beside.{around}
 use Rattle.tree_nodes.specs.Code.Removals.{has_one_side, IsPair, IsTriple}
@@ -28,10 +28,8 @@ pair_of_second _ b t l = (t, l)
 
 pub triple_of_pair : (a b c : Tree) → IsPair a b → IsTree c → IsTriple a b c
 triple_of_pair a b Empty p t = p
-triple_of_pair a b (Leaf c) p t = (p, t)
 triple_of_pair a b (Underfull' p x k y m z) q t = absurd t
-triple_of_pair a b (Two' p x k y m z) q t = (q, t)
-triple_of_pair a b (Three' p x k y m z) q t = (q, t)
+triple_of_pair a b _ q t = (q, t)
 
 pub triple_of_first : (a b c : Tree) → IsLoose a → IsTree b → IsTree c → IsTriple a b c
 triple_of_first a b c l t t' = triple_of_pair a b c (pair_of_first a b l t) t'
@@ -47,24 +45,17 @@ triple_of_third a b _ t t' l = (pair_of_second a b t (loose_of_tree b t'), l)
 -- siblings that are not underfull are trees
 pub trees_of_pair : (a b : Tree) → IsPair a b → has_one_side a ≡ false → has_one_side b ≡ false → IsTree a × IsTree b
 trees_of_pair Empty b p whole whole' = (tt, tree_of_loose b p whole')
-trees_of_pair (Leaf a) b p whole whole' = (p.0, tree_of_loose b p.1 whole')
 trees_of_pair (Underfull' p x k y m z) b q whole whole' = absurd (cc)
-trees_of_pair (Two' p x k y m z) b q whole whole' = (q.0, tree_of_loose b q.1 whole')
-trees_of_pair (Three' p x k y m z) b q whole whole' = (q.0, tree_of_loose b q.1 whole')
+trees_of_pair _ b q whole whole' = (q.0, tree_of_loose b q.1 whole')
 
 pub pair_of_triple : (a b c : Tree) → IsTriple a b c → has_one_side c ≡ false → IsPair a b × IsTree c
 pair_of_triple a b Empty p whole = (p, tt)
-pair_of_triple a b (Leaf c) p whole = p
 pair_of_triple a b (Underfull' p x k y m z) q whole = absurd (cc)
-pair_of_triple a b (Two' p x k y m z) q whole = q
-pair_of_triple a b (Three' p x k y m z) q whole = q
+pair_of_triple a b _ q whole = q
 
 pub third_of_triple : (a b c : Tree) → IsTriple a b c → has_one_side c ≡ true → IsTree a × IsPair b c
-third_of_triple a b Empty p one = absurd (cc)
-third_of_triple a b (Leaf c) p one = absurd (cc)
 third_of_triple a b (Underfull' p x k y m z) q one = (q.0, pair_of_second b (Underfull' p x k y m z) q.1 q.2)
-third_of_triple a b (Two' p x k y m z) q one = absurd (cc)
-third_of_triple a b (Three' p x k y m z) q one = absurd (cc)
+third_of_triple a b _ q one = absurd (cc)
 
 pub ruleset short = (pair_of_first, pair_of_second, triple_of_first, triple_of_second, triple_of_third, loose_of_tree)
 

@@ -1,7 +1,7 @@
 -- Results and intermediate states of an insertion into a tree.
 use Rattle.std.specs.Prelude.{◌≡◌, ℕ, ◌+◌, ◌≤◌, Bool, true, false, List, [], ◌∷◌, ◌++◌, Result, Ok, Err, ⊤}
 use Rattle.tree_nodes.specs.declared.node.Tree.{Tree}
-use Rattle.tree_nodes.specs.declared.node.Tree.TheVariants.{Empty, Leaf, Underfull', Two', Three'}
+use Rattle.tree_nodes.specs.declared.node.Tree.TheVariants.{Two', Three'}
 use Rattle.tree_nodes.specs.declared.node.Split.{Split}
 use Rattle.tree_nodes.specs.declared.node.Split.TheVariants.{Fits, Splits}
 use Rattle.tree_nodes.specs.declared.insert.Outcome.{Outcome}
@@ -61,11 +61,8 @@ is_split (Splits k right) = true
 
 -- whether the root has three children, and so no room for a fourth
 abbrev pub has_three_sides : Tree → Bool
-has_three_sides Empty = false
-has_three_sides (Leaf b) = false
-has_three_sides (Underfull' p a k b m c) = false
-has_three_sides (Two' p a k b m c) = false
 has_three_sides (Three' p a k b m c) = true
+has_three_sides _ = false
 
 -- a node is split exactly if its child was and the node has three children already
 abbrev pub IsSplitWhereFull : Split → Tree → Split → Type 0
@@ -75,47 +72,33 @@ IsSplitWhereFull (Splits k right) tree result = is_split result ≡ has_three_si
 -- a node whose children are trees of equal depth, where `split` was split off its first child; the next two definitions
 -- say the same of the second and of the third child
 abbrev pub HasSplitFirst : Split → Tree → Type 0
-HasSplitFirst split Empty = ⊥
-HasSplitFirst split (Leaf b) = ⊥
-HasSplitFirst split (Underfull' p a k b m c) = ⊥
 HasSplitFirst split (Two' p a k b m c) = IsTreeWithSplit (depth b) a split × IsTree b
 HasSplitFirst split (Three' p a k b m c) =
     IsTreeWithSplit (depth b) a split × IsTree b × IsTree c × (depth c ≡ depth b)
+HasSplitFirst split _ = ⊥
 
 abbrev pub HasSplitSecond : Split → Tree → Type 0
-HasSplitSecond split Empty = ⊥
-HasSplitSecond split (Leaf b) = ⊥
-HasSplitSecond split (Underfull' p a k b m c) = ⊥
 HasSplitSecond split (Two' p a k b m c) = IsTree a × IsTreeWithSplit (depth a) b split
 HasSplitSecond split (Three' p a k b m c) =
     IsTree a × IsTreeWithSplit (depth a) b split × IsTree c × (depth c ≡ depth a)
+HasSplitSecond split _ = ⊥
 
 abbrev pub HasSplitThird : Split → Tree → Type 0
-HasSplitThird split Empty = ⊥
-HasSplitThird split (Leaf b) = ⊥
-HasSplitThird split (Underfull' p a k b m c) = ⊥
-HasSplitThird split (Two' p a k b m c) = ⊥
 HasSplitThird split (Three' p a k b m c) =
     IsTree a × IsTree b × (depth b ≡ depth a) × IsTreeWithSplit (depth a) c split
+HasSplitThird split _ = ⊥
 
 -- the keys of a node with those of `split` after its first child; the next two do the same for the second and the third
 abbrev pub with_first_split : Split → Tree → List ℕ
-with_first_split split Empty = []
-with_first_split split (Leaf b) = []
-with_first_split split (Underfull' p a k b m c) = []
 with_first_split split (Two' p a k b m c) = keys_with_split a split ++ k ∷ keys b
 with_first_split split (Three' p a k b m c) = keys_with_split a split ++ k ∷ (keys b ++ m ∷ keys c)
+with_first_split split _ = []
 
 abbrev pub with_second_split : Split → Tree → List ℕ
-with_second_split split Empty = []
-with_second_split split (Leaf b) = []
-with_second_split split (Underfull' p a k b m c) = []
 with_second_split split (Two' p a k b m c) = keys a ++ k ∷ keys_with_split b split
 with_second_split split (Three' p a k b m c) = keys a ++ k ∷ (keys_with_split b split ++ m ∷ keys c)
+with_second_split split _ = []
 
 abbrev pub with_third_split : Split → Tree → List ℕ
-with_third_split split Empty = []
-with_third_split split (Leaf b) = []
-with_third_split split (Underfull' p a k b m c) = []
-with_third_split split (Two' p a k b m c) = []
 with_third_split split (Three' p a k b m c) = keys a ++ k ∷ (keys b ++ m ∷ keys_with_split c split)
+with_third_split split _ = []

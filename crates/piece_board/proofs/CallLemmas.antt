@@ -1,6 +1,7 @@
 -- The seat of a call between its steps, and after its last step.
 use Rattle.std.proofs.Common.{◌≡◌, ℕ, ◌+◌, ◌*◌, ◌<◌, ◌≤◌, List, [], ◌∷◌, get_or, Option, None, Some, IsSomeAnd, sym, refl, ap, ◌∙◌, subst, arith}
 use mathlib.Core.Option.{none}
+use Rattle.limits.specs.declared.TheConstants.{PLACES}
 use Rattle.atomic_table.specs.Table.{step, rest, Allows}
 use Rattle.piece_board.specs.declared.view.Content.{Content}
 use Rattle.piece_board.specs.declared.view.Content.TheVariants.{Nothing, Input, Output}
@@ -19,12 +20,12 @@ use Rattle.piece_board.specs.Steps.{SeatAt, with_in_hand, then_desk, then_desk_w
 use Rattle.piece_board.proofs.RuleLemmas.Steps.{IsOwn, posts, puts_own, puts_claim, finishes}
 
 -- a place of a row of the board is a place of its table
-pub within : (rows row place number places : ℕ) → places ≡ 56 * rows → row < rows → place < 56
+pub within : (rows row place number places : ℕ) → places ≡ PLACES * rows → row < rows → place < PLACES
     → number ≡ number_of row place → number < places
 within rows row place number places all below place_below is = omega (arith, all, below, place_below, is)
 
 pub own_place : {I : Type 0} (v : View I) (row place number : ℕ) → v.desk.row ≡ row → v.end_row ≡ row + 1
-    → place < 56 → number ≡ number_of row place → IsOwn v number place
+    → place < PLACES → number ≡ number_of row place → IsOwn v number place
 own_place v row place number first end below is =
     record { number = omega (arith, first, is); below = below; row = omega (arith, first, end) }
 
@@ -93,7 +94,7 @@ module _ {I O : Type 0} (slots k place : ℕ) (m n p q : SeatAt I O) (empty : m.
       (subst (λ (r : SeatAt I O). Posts (step slots k 1 0 none) r 1 q)
       (written m n p (with_in_hand (k + 1) m.0) k Nothing (Input x) taken empty then) told) place x own.number refl
 
-  pub finish_leaves : (row : ℕ) (y : O) → place < 56 → k ≡ number_of row place
+  pub finish_leaves : (row : ℕ) (y : O) → place < PLACES → k ≡ number_of row place
       → n ≡ (with_in_hand (k + 1) m.0, (k, Nothing) ∷ m.1) → p ≡ (n.0, (k, Output y) ∷ rest n.1)
       → Finishes (step slots k 3 0 none) p 3 q → q ≡ (then_desk k (after_finish row place) m.0, [])
   finish_leaves row y below number taken then told =
@@ -114,14 +115,15 @@ nothing_leaves m q w empty is = is ∙ ap (λ (l : List (ℕ × Content _ _)). (
 
 -- a claim outside the board
 pub stray_leaves : {I O : Type 0} (meets : I → O → Type 0) (slots rows row place first second found : ℕ) (m q : SeatAt I O)
-    → slots ≡ 56 * rows → first ≡ row → second ≡ place → (row < rows → 56 ≤ place)
+    → slots ≡ PLACES * rows → first ≡ row → second ≡ place → (row < rows → PLACES ≤ place)
     → Strays meets (step slots 0 (4 + first) second none) m found q → Misses meets (after_refusal row place) (step slots 0 (4 + first) second none) m found q
 stray_leaves meets slots rows row place first second found m q all row_is place_is outside told =
     told row place (ap (λ (k : ℕ). 4 + k) row_is) place_is (λ below. outside (omega (arith, all, below)))
 
 -- a miss at a place of the table, as a call tells of it
-pub miss_told : {W I O : Type 0} {g : Ghosts W I O} (b : Board W I O) (d : Desk W I O g) (slots place k : ℕ) (miss : Miss) → slots ≡ 56 * workers_of b → place ≡ k
-    → IsMissAt g.meets slots d.seat.me.0 place miss → IsMissOf b d k miss
+pub miss_told : {W I O : Type 0} {g : Ghosts W I O} (b : Board W I O) (d : Desk W I O g) (slots place k : ℕ)
+    (miss : Miss) → slots ≡ PLACES * workers_of b → place ≡ k → IsMissAt g.meets slots d.seat.me.0 place miss
+    → IsMissOf b d k miss
 unfolding IsMissOf
 miss_told {W} {I} {O} {g} b d slots place k miss wide is h =
     subst (λ (p : ℕ × ℕ). IsMissAt g.meets p.0 d.seat.me.0 p.1 miss) (λ e. (wide e, is e)) h
@@ -136,7 +138,7 @@ module _ {I O : Type 0} (meets : I → O → Type 0) (n seat : ℕ) (m : SeatAt 
       (posts meets n seat (with_in_hand (k + 1) v) [] k place x inside refl
       (record { number = own.number; below = own.below; row = own.row }) free)
 
-  pub finishes_at : (row place : ℕ) (x : I) (y : O) → m ≡ (with_in_hand (k + 1) v, (k, Output y) ∷ []) → place < 56
+  pub finishes_at : (row place : ℕ) (x : I) (y : O) → m ≡ (with_in_hand (k + 1) v, (k, Output y) ∷ []) → place < PLACES
       → k ≡ number_of row place → entry_at k v.desk.claims ≡ Some x → meets x y
       → Allows (ObeysRule meets) n seat m k (λ _. 3) (λ _. Finishes (step n k 3 0 none) m 3)
   finishes_at row place x y is below number mine fits =

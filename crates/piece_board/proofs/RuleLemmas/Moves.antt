@@ -6,6 +6,7 @@ use mathlib.Core.Option.{Option as Home, some}
 use native.Mathlib.Decide.{ℕ_discrete}
 use lib.ListN.{get_elem?}
 use lib.Seq.{set-get_or}
+use Rattle.limits.specs.declared.TheConstants.{PLACES}
 use Rattle.atomic_table.proofs.Lists.{at_set}
 use Rattle.piece_board.specs.declared.view.Content.{Content}
 use Rattle.piece_board.specs.declared.view.View.{View}
@@ -40,13 +41,13 @@ pub record Moves {I O : Type 0} (meets : I → O → Type 0) (s : BoardState I O
   pub me : get_elem? s.views seat ≡ some v
   pub rows : SameRows v w
   pub hand : (j : ℕ) → j ≢ k → v.in_hand ≢ j + 1
-  pub posted : (j : ℕ) → j ≢ k → 56 * v.desk.row ≤ j
-      → entry_at (j - 56 * v.desk.row) w.desk.posted ≡ entry_at (j - 56 * v.desk.row) v.desk.posted
+  pub posted : (j : ℕ) → j ≢ k → PLACES * v.desk.row ≤ j
+      → entry_at (j - PLACES * v.desk.row) w.desk.posted ≡ entry_at (j - PLACES * v.desk.row) v.desk.posted
   pub claims : (j : ℕ) → j ≢ k → entry_at j w.desk.claims ≡ entry_at j v.desk.claims
   pub apart : AreApart w.desk.posted × AreApart w.desk.claims
   pub here : PlaceStands meets (after_step s k n seat w h) k last (o.owner k) claimer
-  pub owned : (i : ℕ) (u : View I) → get_elem? (set s.views seat w) i ≡ some u → 56 * u.desk.row ≤ k
-      → k < 56 * u.end_row → IsKnown n last (entry_at (k - 56 * u.desk.row) u.desk.posted)
+  pub owned : (i : ℕ) (u : View I) → get_elem? (set s.views seat w) i ≡ some u → PLACES * u.desk.row ≤ k
+      → k < PLACES * u.end_row → IsKnown n last (entry_at (k - PLACES * u.desk.row) u.desk.posted)
   pub claimed : (i : ℕ) (u : View I) (x : I) → get_elem? (set s.views seat w) i ≡ some u
       → entry_at k u.desk.claims ≡ Some x → (claimer ≡ i) × (n ≡ 2) × (last ≡ Some x)
   pub counts_else : (j : ℕ) → j ≢ k → (claims_at j w ≡ claims_at j v) × (posts_at j w ≡ posts_at j v)
@@ -55,8 +56,8 @@ pub record Moves {I O : Type 0} (meets : I → O → Type 0) (s : BoardState I O
 
 module _ {I O : Type 0} (meets : I → O → Type 0) where
   -- a place in the seat's rows after the step was in its rows before
-  pub rows_before : (v w u : View I) (k : ℕ) → SameRows v w → w ≡ u → 56 * u.desk.row ≤ k → k < 56 * u.end_row
-      → (56 * v.desk.row ≤ k) × (k < 56 * v.end_row)
+  pub rows_before : (v w u : View I) (k : ℕ) → SameRows v w → w ≡ u → PLACES * u.desk.row ≤ k → k < PLACES * u.end_row
+      → (PLACES * v.desk.row ≤ k) × (k < PLACES * v.end_row)
   rows_before v w u k rows is low high =
       let first : u.desk.row ≡ v.desk.row = ap (λ (z : View I). z.desk.row) (sym is) ∙ rows.first in
       let end : u.end_row ≡ v.end_row = ap (λ (z : View I). z.end_row) (sym is) ∙ rows.end in
@@ -98,42 +99,43 @@ module _ {I O : Type 0} (meets : I → O → Type 0) where
 
     -- a seat's knowledge of another place before the step
     owned_before : (i : ℕ) (u : View I) (j : ℕ) → j ≢ k → get_elem? (set s.views seat w) i ≡ some u
-        → 56 * u.desk.row ≤ j → j < 56 * u.end_row
-        → (o.owner j ≡ i) × IsKnown (get_or s.words j 0) (o.last j) (entry_at (j - 56 * u.desk.row) u.desk.posted)
+        → PLACES * u.desk.row ≤ j → j < PLACES * u.end_row
+        → (o.owner j ≡ i) × IsKnown (get_or s.words j 0) (o.last j) (entry_at (j - PLACES * u.desk.row) u.desk.posted)
     owned_before i u j ne at low high = ⊎_elim
         (λ t.
         let rows = rows_before v w u j m.rows t.1 low high in
         let was = o.owned seat v j m.me rows.0 rows.1 in (
           was.0 ∙ sym t.0,
           subst (λ (e : Option I). IsKnown (get_or s.words j 0) (o.last j) e)
-              (sym (m.posted j ne rows.0) ∙ ap (λ (b : ℕ). entry_at (j - 56 * b) w.desk.posted) (sym m.rows.first)
-              ∙ ap (λ (z : View I). entry_at (j - 56 * z.desk.row) z.desk.posted) t.1) was.1,
+              (sym (m.posted j ne rows.0) ∙ ap (λ (b : ℕ). entry_at (j - PLACES * b) w.desk.posted) (sym m.rows.first)
+              ∙ ap (λ (z : View I). entry_at (j - PLACES * z.desk.row) z.desk.posted) t.1) was.1,
         ))
         (λ t. o.owned i u j t.1 low high) (at_set s.views seat i w u at)
 
     -- the owner of the step's own place stays the same
     owner_still : (i : ℕ) (u : View I) → get_elem? (set s.views seat w) i ≡ some u
-        → 56 * u.desk.row ≤ k → k < 56 * u.end_row → o.owner k ≡ i
+        → PLACES * u.desk.row ≤ k → k < PLACES * u.end_row → o.owner k ≡ i
     owner_still i u at low high = ⊎_elim
         (λ t. let rows = rows_before v w u k m.rows t.1 low high in (o.owned seat v k m.me rows.0 rows.1).0 ∙ sym t.0)
         (λ t. (o.owned i u k t.1 low high).0) (at_set s.views seat i w u at)
 
     owned_then : (i : ℕ) (u : View I) (j : ℕ) → get_elem? (set s.views seat w) i ≡ some u
-        → 56 * u.desk.row ≤ j → j < 56 * u.end_row
+        → PLACES * u.desk.row ≤ j → j < PLACES * u.end_row
         → (o.owner j ≡ i)
-        × IsKnown (get_or (set s.words k n) j 0) (changed o.last k last j) (entry_at (j - 56 * u.desk.row) u.desk.posted)
+        × IsKnown (get_or (set s.words k n) j 0) (changed o.last k last j)
+        (entry_at (j - PLACES * u.desk.row) u.desk.posted)
     owned_then i u j at low high = dite (ℕ_discrete j k)
         (λ (is : j ≡ k).
-        let low' : 56 * u.desk.row ≤ k = omega (arith, low, is) in
-        let high' : k < 56 * u.end_row = omega (arith, high, is) in (
+        let low' : PLACES * u.desk.row ≤ k = omega (arith, low, is) in
+        let high' : k < PLACES * u.end_row = omega (arith, high, is) in (
           ap o.owner is ∙ owner_still i u at low' high',
-          subst (λ (q : (ℕ × Option I) × ℕ). IsKnown q.0.0 q.0.1 (entry_at (q.1 - 56 * u.desk.row) u.desk.posted))
+          subst (λ (q : (ℕ × Option I) × ℕ). IsKnown q.0.0 q.0.1 (entry_at (q.1 - PLACES * u.desk.row) u.desk.posted))
               (λ e. ((sym (word_here j is) e, sym (changed_here o.last k j last is) e), sym is e))
               (m.owned i u at low' high'),
         ))
         (λ (ne : j ≢ k). let was = owned_before i u j ne at low high in (
           was.0,
-          subst (λ (q : ℕ × Option I). IsKnown q.0 q.1 (entry_at (j - 56 * u.desk.row) u.desk.posted))
+          subst (λ (q : ℕ × Option I). IsKnown q.0 q.1 (entry_at (j - PLACES * u.desk.row) u.desk.posted))
               (λ e. (sym (word_else j ne) e, sym (changed_else o.last k j last ne) e)) was.1,
         ))
 
@@ -189,14 +191,15 @@ module _ {I O : Type 0} (meets : I → O → Type 0) where
   module _ (s : BoardState I O) (o : ObeysRule meets s) (k seat : ℕ) (v w : View I) (me : get_elem? s.views seat ≡ some v) where
     -- the owner's knowledge of the place is unchanged
     pub owned_still : SameRows v w → w.desk.posted ≡ v.desk.posted → (i : ℕ) (u : View I)
-        → get_elem? (set s.views seat w) i ≡ some u → 56 * u.desk.row ≤ k → k < 56 * u.end_row
-        → IsKnown (get_or s.words k 0) (o.last k) (entry_at (k - 56 * u.desk.row) u.desk.posted)
+        → get_elem? (set s.views seat w) i ≡ some u → PLACES * u.desk.row ≤ k → k < PLACES * u.end_row
+        → IsKnown (get_or s.words k 0) (o.last k) (entry_at (k - PLACES * u.desk.row) u.desk.posted)
     owned_still rows same i u at low high = ⊎_elim
         (λ t.
         let before = rows_before v w u k rows t.1 low high in
         subst (λ (e : Option I). IsKnown (get_or s.words k 0) (o.last k) e)
-        ((λ e. entry_at (k - 56 * sym rows.first e) (sym same e))
-        ∙ ap (λ (z : View I). entry_at (k - 56 * z.desk.row) z.desk.posted) t.1) (o.owned seat v k me before.0 before.1).1)
+        ((λ e. entry_at (k - PLACES * sym rows.first e) (sym same e))
+        ∙ ap (λ (z : View I). entry_at (k - PLACES * z.desk.row) z.desk.posted) t.1)
+        (o.owned seat v k me before.0 before.1).1)
         (λ t. (o.owned i u k t.1 low high).1) (at_set s.views seat i w u at)
 
     -- the claims at the place are unchanged
@@ -217,8 +220,8 @@ module _ {I O : Type 0} (meets : I → O → Type 0) where
         (λ t. absurd (others i u x t.1 t.0 found)) (at_set s.views seat i w u at)
 
     -- if the place is in this seat's rows, its owner after the step is this seat
-    pub owner_is_me : SameRows v w → 56 * v.desk.row ≤ k → k < 56 * v.end_row → (i : ℕ) (u : View I)
-        → get_elem? (set s.views seat w) i ≡ some u → 56 * u.desk.row ≤ k → k < 56 * u.end_row → w ≡ u
+    pub owner_is_me : SameRows v w → PLACES * v.desk.row ≤ k → k < PLACES * v.end_row → (i : ℕ) (u : View I)
+        → get_elem? (set s.views seat w) i ≡ some u → PLACES * u.desk.row ≤ k → k < PLACES * u.end_row → w ≡ u
     owner_is_me rows low high i u at low' high' = ⊎_elim (λ t. t.1)
         (λ t. absurd (t.0 (sym (o.owned i u k t.1 low' high').0 ∙ (o.owned seat v k me low high).0)))
         (at_set s.views seat i w u at)

@@ -7,6 +7,7 @@ use mathlib.Core.Logic.{dite}
 use mathlib.Core.Option.{some, some-ne-none, some-injective}
 use native.Mathlib.Decide.{ℕ_discrete, dec_lt}
 use lib.ListN.{get_elem?}
+use Rattle.limits.specs.declared.TheConstants.{PLACES}
 use Rattle.atomic_table.specs.Table.{Splits, opening}
 use Rattle.atomic_table.proofs.Lists.{at_set}
 use Rattle.piece_board.specs.declared.view.Content.TheVariants.{Nothing}
@@ -46,8 +47,8 @@ module _ {I O : Type 0} (meets : I → O → Type 0) where
             stands_free meets s k None 0 0 (get_or-replicate n k 0 0 near) (λ v at away. home_of_replicate n k Nothing near);
         owned = λ i u k at low high. let t = only u (first_view rows) i at in (
           t.0,
-          subst (λ (v : View I). IsKnown (get_or (replicate n 0) k 0) None (entry_at (k - 56 * v.desk.row) v.desk.posted)) t.1
-              (zeros n k),
+          subst (λ (v : View I). IsKnown (get_or (replicate n 0) k 0) None
+              (entry_at (k - PLACES * v.desk.row) v.desk.posted)) t.1 (zeros n k),
         );
         claims = λ i u k x at found.
             absurd (none_is_not x (ap (λ (v : View I). entry_at k v.desk.claims) (only u (first_view rows) i at).1 ∙ found));
@@ -75,7 +76,7 @@ module _ {I O : Type 0} (meets : I → O → Type 0) where
       let left : View I = without_first_row v in
       let right : View I = first_row v in
       let then : BoardState I O = record { words = s.words; homes = s.homes; views = set s.views seat left ++ right ∷ [] } in
-      let cut_at : ℕ = 56 * (row + 1) in
+      let cut_at : ℕ = PLACES * (row + 1) in
       let owner : ℕ → ℕ = λ k. cond (eqb (o.owner k) seat) (cond (ltb k cut_at) z (o.owner k)) (o.owner k) in
       let set_long : length (set s.views seat left) ≡ z = length-set s.views seat left in
       let long : length then.views ≡ z + 1 = omega (arith, length-append (set s.views seat left) (right ∷ []), set_long) in
@@ -123,20 +124,22 @@ module _ {I O : Type 0} (meets : I → O → Type 0) where
         };
         owned = λ i u k at from to. ⊎_elim
             (λ t.
-            let from' : cut_at ≤ k = subst (λ (q : View I). 56 * q.desk.row ≤ k) (sym t.1) from in
-            let to' : k < 56 * end_row = subst (λ (q : View I). k < 56 * q.end_row) (sym t.1) to in
+            let from' : cut_at ≤ k = subst (λ (q : View I). PLACES * q.desk.row ≤ k) (sym t.1) from in
+            let to' : k < PLACES * end_row = subst (λ (q : View I). k < PLACES * q.end_row) (sym t.1) to in
             let was = o.owned seat v k me (omega (arith, from')) to' in (
               high k was.0 from' ∙ was.0 ∙ sym t.0,
-              subst (λ (q : View I). IsKnown (get_or s.words k 0) (o.last k) (entry_at (k - 56 * q.desk.row) q.desk.posted)) t.1 was.1,
+              subst (λ (q : View I). IsKnown (get_or s.words k 0) (o.last k)
+                  (entry_at (k - PLACES * q.desk.row) q.desk.posted)) t.1 was.1,
             ))
             (λ r. ⊎_elim
             (λ t. let was = o.owned i u k t.1 from to in (other k (λ h. t.0 (sym was.0 ∙ h)) ∙ was.0, was.1))
             (λ t.
-            let from' : 56 * row ≤ k = subst (λ (q : View I). 56 * q.desk.row ≤ k) (sym t.0) from in
-            let to' : k < cut_at = subst (λ (q : View I). k < 56 * q.end_row) (sym t.0) to in
+            let from' : PLACES * row ≤ k = subst (λ (q : View I). PLACES * q.desk.row ≤ k) (sym t.0) from in
+            let to' : k < cut_at = subst (λ (q : View I). k < PLACES * q.end_row) (sym t.0) to in
             let was = o.owned seat v k me from' (omega (arith, to', some_left)) in (
               low k was.0 to' ∙ sym t.1,
-              subst (λ (q : View I). IsKnown (get_or s.words k 0) (o.last k) (entry_at (k - 56 * q.desk.row) q.desk.posted)) t.0 was.1,
+              subst (λ (q : View I). IsKnown (get_or s.words k 0) (o.last k)
+                  (entry_at (k - PLACES * q.desk.row) q.desk.posted)) t.0 was.1,
             )) r) (which i u at);
         claims = λ i u k x at found. ⊎_elim
             (λ t. absurd (none_is_not x (ap (λ (q : View I). entry_at k q.desk.claims) t.1 ∙ found)))

@@ -5,6 +5,7 @@ use mathlib.Core.Option.{Option as Home, some, none}
 use lib.ListN.{get_elem?}
 use lib.Seq.{set-get_or}
 use prog.Atomic.{either}
+use Rattle.limits.specs.declared.TheConstants.{PLACES}
 use Rattle.atomic_table.specs.Table.{step, Act, keeps, takes, gives, Valid, carried_after, stepped, Allows}
 use Rattle.atomic_table.proofs.Lists.{set_here, exchanged}
 use Rattle.piece_board.specs.declared.view.Content.{Content}
@@ -27,20 +28,20 @@ use Rattle.piece_board.proofs.RuleLemmas.Moves.{SameRows, SameDesks, Moves, rule
 -- place `k` of the board is place `place` of the seat's own row
 pub record IsOwn {I : Type 0} (v : View I) (k place : ℕ) : Type 0 where
   pub number : k ≡ number_of v.desk.row place
-  pub below : place < 56
+  pub below : place < PLACES
   pub row : v.end_row ≡ v.desk.row + 1
 
-from_row : {I : Type 0} (v : View I) (k place : ℕ) → IsOwn v k place → 56 * v.desk.row ≤ k
+from_row : {I : Type 0} (v : View I) (k place : ℕ) → IsOwn v k place → PLACES * v.desk.row ≤ k
 from_row v k place own = omega (arith, own.number)
 
-to_row : {I : Type 0} (v : View I) (k place : ℕ) → IsOwn v k place → k < 56 * v.end_row
+to_row : {I : Type 0} (v : View I) (k place : ℕ) → IsOwn v k place → k < PLACES * v.end_row
 to_row v k place own = omega (arith, own.number, own.below, own.row)
 
-in_row : {I : Type 0} (v : View I) (k place : ℕ) → IsOwn v k place → k - 56 * v.desk.row ≡ place
+in_row : {I : Type 0} (v : View I) (k place : ℕ) → IsOwn v k place → k - PLACES * v.desk.row ≡ place
 in_row v k place own = omega (arith, own.number)
 
-apart_in_row : {I : Type 0} (v : View I) (k place j : ℕ) → IsOwn v k place → j ≢ k → 56 * v.desk.row ≤ j
-    → j - 56 * v.desk.row ≢ place
+apart_in_row : {I : Type 0} (v : View I) (k place j : ℕ) → IsOwn v k place → j ≢ k → PLACES * v.desk.row ≤ j
+    → j - PLACES * v.desk.row ≢ place
 apart_in_row v k place j own ne low is = ne (omega (arith, own.number, low, is))
 
 same_input : {I O : Type 0} (k : ℕ) (xs ys : List (ℕ × Content I O)) (x y : I) → (k, Input x) ∷ xs ≡ (k, Input y) ∷ ys → x ≡ y
@@ -50,11 +51,13 @@ nothing_there : {I : Type 0} (o : Option I) → ((x : I) → o ≡ Some x → �
 nothing_there None never = refl
 nothing_there (Some x) never = absurd (never x refl)
 
-same_row : (k row place row' place' : ℕ) → place < 56 → place' < 56 → k ≡ number_of row place → k ≡ number_of row' place'
+same_row : (k row place row' place' : ℕ) → place < PLACES → place' < PLACES → k ≡ number_of row place
+    → k ≡ number_of row' place'
     → row ≡ row'
 same_row k row place row' place' below below' is is' = omega (arith, below, below', is, is')
 
-same_place : (k row place row' place' : ℕ) → place < 56 → place' < 56 → k ≡ number_of row place → k ≡ number_of row' place'
+same_place : (k row place row' place' : ℕ) → place < PLACES → place' < PLACES → k ≡ number_of row place
+    → k ≡ number_of row' place'
     → place ≡ place'
 same_place k row place row' place' below below' is is' = omega (arith, below, below', is, is')
 
@@ -237,7 +240,8 @@ module _ {I O : Type 0} (meets : I → O → Type 0) where
           me = me;
           rows = rows;
           hand = λ j ne e. ne (omega (arith, e, full));
-          posted = λ j ne low. entry_before (j - 56 * v.desk.row) place x v.desk.posted (apart_in_row v k place j own ne low);
+          posted = λ j ne low. entry_before (j - PLACES * v.desk.row) place x v.desk.posted
+              (apart_in_row v k place j own ne low);
           claims = λ j ne. refl;
           apart = (apart_with_last place x v.desk.posted free apart.0, apart.1);
           here = stands_open meets _ k (Some x) (o.owner k) (o.claimer k) (get_or-set_same s.words k 1 0 inside_words) x refl
@@ -247,7 +251,8 @@ module _ {I O : Type 0} (meets : I → O → Type 0) where
               subst (λ (e : Option I). IsKnown 1 (Some x) e)
               (sym (entry_last place x v.desk.posted free)
               ∙ ap (λ (j : ℕ). entry_at j w.desk.posted) (sym (in_row v k place own))
-              ∙ ap (λ (z : View I). entry_at (k - 56 * z.desk.row) z.desk.posted) mine) ((λ (e : 1 ≡ 0). omega (arith, e)), refl);
+              ∙ ap (λ (z : View I). entry_at (k - PLACES * z.desk.row) z.desk.posted) mine)
+              ((λ (e : 1 ≡ 0). omega (arith, e)), refl);
           claimed = λ i u y at found.
               let t = claims_still meets s o k seat v w me refl i u y at found in absurd (omega (arith, t.1, word));
           counts_else = λ j ne.
@@ -269,7 +274,7 @@ module _ {I O : Type 0} (meets : I → O → Type 0) where
 
   -- a seat claims an open place, or finds it not open
   pub claims : (n seat : ℕ) (v : View I) (xs : List (ℕ × Content I O)) (k row place : ℕ) → k < n → v.in_hand ≡ 0
-      → place < 56 → k ≡ number_of row place
+      → place < PLACES → k ≡ number_of row place
       → Allows (ObeysRule meets) n seat (v, xs) k (λ y. either (eqb y 1) 2 y) (Claims meets (step n k 1 2 none) (v, xs))
   claims n seat v xs k row place lt empty below number s o wide me fits =
       let there : k < length s.homes = omega (arith, wide, lt) in
@@ -302,8 +307,8 @@ module _ {I O : Type 0} (meets : I → O → Type 0) where
           apart = (apart.0, (none_yet, apart.1));
           here = stands_claimed meets _ k (o.last k) (o.owner k) seat (get_or-set_same s.words k 2 0 inside_words)
               (in_my_hand s o k seat v me 2 seat 0 w none refl refl);
-          owned = λ i u at low high. known_still (entry_at (k - 56 * u.desk.row) u.desk.posted) (get_or s.words k 0) 2 (o.last k)
-              (λ e. omega (arith, e, one)) (λ e. omega (arith, e))
+          owned = λ i u at low high. known_still (entry_at (k - PLACES * u.desk.row) u.desk.posted)
+              (get_or s.words k 0) 2 (o.last k) (λ e. omega (arith, e, one)) (λ e. omega (arith, e))
               (owned_still meets s o k seat v w me rows refl i u at low high);
           claimed = λ i u y at found.
               let t = claims_mine meets s o k seat v w me (λ i' u' y' at' ne found'. nobody i' u' y' at' found') i u y at found in (
@@ -369,7 +374,7 @@ module _ {I O : Type 0} (meets : I → O → Type 0) where
 
   -- the claimer of a place fills it
   pub finishes : (n seat : ℕ) (v : View I) (xs : List (ℕ × Content I O)) (k row place : ℕ) (x : I) (y : O) → k < n
-      → v.in_hand ≡ k + 1 → place < 56 → k ≡ number_of row place → entry_at k v.desk.claims ≡ Some x → meets x y
+      → v.in_hand ≡ k + 1 → place < PLACES → k ≡ number_of row place → entry_at k v.desk.claims ≡ Some x → meets x y
       → Allows (ObeysRule meets) n seat (v, (k, Output y) ∷ xs) k (λ _. 3)
       (λ _. Finishes (step n k 3 0 none) (v, (k, Output y) ∷ xs) 3)
   finishes n seat v xs k row place x y lt full below number mine fits s o wide me small =
@@ -395,8 +400,8 @@ module _ {I O : Type 0} (meets : I → O → Type 0) where
           apart = (apart.0, apart_without (number_of row place) v.desk.claims apart.1);
           here = stands_full meets _ k (o.last k) (o.owner k) (o.claimer k) (get_or-set_same s.words k 3 0 inside_words) x y was.2
               (set_here s.homes k (some (Output y)) there) fits;
-          owned = λ i u at low high. known_still (entry_at (k - 56 * u.desk.row) u.desk.posted) (get_or s.words k 0) 3 (o.last k)
-              (λ e. omega (arith, e, was.1)) (λ e. omega (arith, e))
+          owned = λ i u at low high. known_still (entry_at (k - PLACES * u.desk.row) u.desk.posted)
+              (get_or s.words k 0) 3 (o.last k) (λ e. omega (arith, e, was.1)) (λ e. omega (arith, e))
               (owned_still meets s o k seat v w me rows refl i u at low high);
           claimed = λ i u z at found.
               let t = claims_mine meets s o k seat v w me
@@ -440,7 +445,8 @@ module _ {I O : Type 0} (meets : I → O → Type 0) where
           me = me;
           rows = rows;
           hand = λ j ne e. omega (arith, e, empty);
-          posted = λ j ne low'. entry_stays (j - 56 * v.desk.row) place v.desk.posted (apart_in_row v k place j own ne low');
+          posted = λ j ne low'. entry_stays (j - PLACES * v.desk.row) place v.desk.posted
+              (apart_in_row v k place j own ne low');
           claims = λ j ne. refl;
           apart = (apart_without place v.desk.posted apart.0, apart.1);
           here = stands_free meets _ k (o.last k) (o.owner k) (o.claimer k) (get_or-set_same s.words k 0 0 inside_words)
@@ -450,7 +456,7 @@ module _ {I O : Type 0} (meets : I → O → Type 0) where
               subst (λ (e : Option I). IsKnown 0 (o.last k) e)
               (sym (entry_gone place v.desk.posted apart.0)
               ∙ ap (λ (j : ℕ). entry_at j w.desk.posted) (sym (in_row v k place own))
-              ∙ ap (λ (z : View I). entry_at (k - 56 * z.desk.row) z.desk.posted) mine) refl;
+              ∙ ap (λ (z : View I). entry_at (k - PLACES * z.desk.row) z.desk.posted) mine) refl;
           claimed = λ i u y at found.
               let t = claims_still meets s o k seat v w me refl i u y at found in absurd (omega (arith, t.1, three));
           counts_else = λ j ne. (refl, refl);
@@ -460,8 +466,8 @@ module _ {I O : Type 0} (meets : I → O → Type 0) where
         }),
         λ place' number'.
             let place_is : place ≡ place' = omega (arith, own.number, number') in
-            let known = known_last (entry_at (k - 56 * v.desk.row) v.desk.posted) (get_or s.words k 0) (o.last k) full.0
-            (λ e. omega (arith, e, three)) was.1 full.2 in (
+            let known = known_last (entry_at (k - PLACES * v.desk.row) v.desk.posted) (get_or s.words k 0) (o.last k)
+            full.0 (λ e. omega (arith, e, three)) was.1 full.2 in (
               (λ _. (
                 full.0,
                 full.1,

@@ -1,4 +1,5 @@
 use Rattle.std.proofs.Common.{rules, refl, ◌+◌, ◌<◌, ◌∙◌, ap, arith}
+use Rattle.limits.specs.declared.TheConstants.{PLACES}
 use Rattle.piece_board.specs.declared.view.Content.TheVariants.{Nothing, Output}
 use Rattle.piece_board.specs.Entries.{entry_at}
 use Rattle.piece_board.specs.Desks.{after_finish}
@@ -12,7 +13,7 @@ pub load-requires : goal.load-requires
 load-requires g c =
     let desk = c.args.desk.now in
     let number = c.number_of-number.ensures in
-    let below : c.args.claim.place < 56 = omega (arith, c.args.claim.within) in
+    let below : c.args.claim.place < PLACES = omega (arith, c.args.claim.within) in
     let mine = what_is_there (claimed_by c.args.claim desk) _ c.requires.meets in (
       c.requires.desk.seated,
       within _ _ _ _ _ c.args.self.now.places.0 c.requires.claim below number,
@@ -26,7 +27,7 @@ store-requires g c =
     let v = desk.seat.me.0 in
     let k = c.number_of-number.result in
     let number = c.number_of-number.ensures in
-    let below : c.args.claim.place < 56 = omega (arith, c.args.claim.within) in
+    let below : c.args.claim.place < PLACES = omega (arith, c.args.claim.within) in
     let mine = what_is_there (claimed_by c.args.claim desk) _ c.requires.meets in (
       search rules,
       within _ _ _ _ _ c.args.self.now.places.0 c.requires.claim below number,

@@ -19,9 +19,13 @@ use crate::view::{Slot, View};
 use arrayvec::ArrayVec;
 use atomic_table::Seat;
 use crossbeam_utils::Backoff;
+use limits::MOST_WORKERS;
 use std::alloc::AllocError;
 use std::sync::Wait;
 use std::thread;
+
+/// The most callers of a structure.
+const MOST_CALLERS: usize = MOST_WORKERS as usize;
 
 impl<T: Combined> Caller<T> {
     /// Whether the caller has found that the structure is lost.
@@ -45,7 +49,7 @@ impl<T: Combined> Shared<T> {
         &self,
         seat: &mut Seat<Slot<T, T::Op, T::Reply>, View<T::Op, T::Reply>>,
         mut ops: Vec<T::Op>,
-    ) -> (ArrayVec<u8, 32>, Vec<T::Op>)
+    ) -> (ArrayVec<u8, MOST_CALLERS>, Vec<T::Op>)
         requires table { seat.old.table_id ≡ self.now.table.shared.table_id }
         requires holds { (seat.old.me.0.to ≡ seat.old.me.0.from + 1) × (seat.old.me.0.holds ≡ true) }
         requires begins { (seat.old.me.0.looks ≡ 0) × (seat.old.me.0.taken ≡ []) × (seat.old.me.0.owed ≡ []) }
@@ -75,7 +79,7 @@ impl<T: Combined> Shared<T> {
     fn answer_all(
         &self,
         seat: &mut Seat<Slot<T, T::Op, T::Reply>, View<T::Op, T::Reply>>,
-        callers: ArrayVec<u8, 32>,
+        callers: ArrayVec<u8, MOST_CALLERS>,
         replies: Vec<T::Reply>,
     )
         requires table { seat.old.table_id ≡ self.now.table.shared.table_id }

@@ -11,7 +11,7 @@ use crate::view::{Slot, View};
 use atomic_table::{Seat, Table};
 use std::alloc::Global;
 
-/// A structure that 1 to 32 callers share.
+/// A structure that 1 to `MOST_WORKERS` callers share.
 pub struct Shared<T: Combined> {
     pub(crate) table: Table<
         Slot<T, T::Op, T::Reply>,

@@ -7,6 +7,7 @@ ghost use Rattle.limits.specs.declared.TheConstants.{MOST_WORKERS};
 use crate::in_pieces::InPieces;
 use crate::rows::{run_all, run_first};
 use crate::work::Pieces;
+use limits::MOST_WORKERS;
 use piece_board::{Board, Desk, Work};
 use std::alloc::{AllocError, Global};
 use std::sync::Wait;
@@ -65,6 +66,7 @@ impl<'a, T: InPieces> PieceHelper<'a, T> {
     /// Runs a piece of the caller of this number, if one is posted that nobody has claimed, as `Helper::help` does.
     /// Returns whether there was one.
     pub fn run_piece_of(&mut self, holder: usize) -> bool {
-        holder < 32 && run_first(self.alloc, self.board, &mut self.desk, holder as u32)
+        holder < MOST_WORKERS as usize
+            && run_first(self.alloc, self.board, &mut self.desk, holder as u32)
     }
 }

@@ -1,15 +1,15 @@
 -- The numbers in the replies of few calls with arguments below 2^32 are below 2^64.
-use Rattle.std.proofs.Common.{◌≡◌, ℕ, zero, suc, ◌+◌, ◌-◌, ◌*◌, ◌<◌, ◌≤◌, ◌^◌, Bool, true, false, List, [], ◌∷◌, ◌++◌, length, take, drop, Option, Some, None, inl, inr, refl, sym, subst, arith}
-use Rattle.std.specs.Prelude.{nat_le, nat_lt, ◌==◌, not, slice_get, if◌then◌else◌, cond}
+use Rattle.std.proofs.Common.{◌≡◌, ℕ, zero, suc, ◌+◌, ◌*◌, ◌<◌, ◌≤◌, ◌^◌, Bool, true, false, List, [], ◌∷◌, ◌++◌, length, take, drop, Option, Some, None, inl, inr, refl, sym, subst, arith, rules}
+use Rattle.std.specs.Prelude.{nat_le, nat_lt, ◌==◌, slice_get, if◌then◌else◌, cond}
 use Rattle.std.specs.List.{AllByRecursion}
-use Rattle.key_sets.specs.Keys.{has, with_key, without_key, least_above}
+use Rattle.key_sets.specs.Keys.{with_key, without_key, least_above}
 use Rattle.seq_objects.specs.Spin.{spin_of}
-use Rattle.seq_objects.specs.Objects.{Objects, after, reply_to, number_of, value_of, argument_of, with_item, top, least, number_or_empty, yes_or_no}
+use Rattle.seq_objects.specs.Objects.{Objects, after, reply_to, number_of, value_of, argument_of, with_item, number_or_empty, yes_or_no}
 use Rattle.seq_objects.specs.Stores.{Store, opening_store, store_after}
 use Rattle.seq_objects.specs.declared.act.Act.{Act}
 use Rattle.seq_objects.specs.declared.act.Act.TheVariants.{Work, Call}
 use Rattle.seq_objects.specs.declared.op.Op.{Op}
-use Rattle.seq_objects.specs.declared.op.Op.TheVariants.{CounterAdd, Push, Pop, TreeInsert, TreeRemove, TreeFind, TreeNext, PqInsert, PqTake}
+use Rattle.seq_objects.specs.declared.op.Op.TheVariants.{CounterAdd}
 use Rattle.seq_objects.specs.declared.reply.Reply.{Reply}
 use Rattle.sp_order.specs.Jobs.{JobValue}
 use Rattle.sp_order.specs.Totals.{count_of_act, total}
@@ -92,14 +92,10 @@ fewer objects room small = record { counter = omega (arith, small.counter); stac
 
 served : (objects : Objects) (op : Op) (room : ℕ) → argument_of op < 2 ^ 32 → AreSmallObjects objects (suc room) → AreSmallObjects (after objects op) room × (value_of (reply_to objects op) < 2 ^ 64)
 served objects (CounterAdd number a) room one small = (record { counter = omega (arith, small.counter, one); stack = small.stack; set = small.set; bag = small.bag }, omega (arith, small.counter, one))
-served objects (Push number a) room one small = (record { counter = omega (arith, small.counter); stack = pushed objects.stack a small.stack one; set = small.set; bag = small.bag }, omega arith)
-served objects (Pop number) room one small = (record { counter = omega (arith, small.counter); stack = taken (length objects.stack - 1) objects.stack small.stack; set = small.set; bag = small.bag }, number_small (top objects.stack) (got objects.stack (length objects.stack - 1) small.stack))
-served objects (TreeInsert number k) room one small = (record { counter = omega (arith, small.counter); stack = small.stack; set = with_key_small k objects.set one small.set; bag = small.bag }, yes_small (not (has k objects.set)))
-served objects (TreeRemove number k) room one small = (record { counter = omega (arith, small.counter); stack = small.stack; set = without_key_small k objects.set small.set; bag = small.bag }, yes_small (has k objects.set))
-served objects (TreeFind number k) room one small = (fewer objects room small, yes_small (has k objects.set))
-served objects (TreeNext number k) room one small = (fewer objects room small, number_small (least_above k objects.set) (above_small k objects.set small.set))
-served objects (PqInsert number a) room one small = (record { counter = omega (arith, small.counter); stack = small.stack; set = small.set; bag = with_item_small a objects.bag one small.bag }, omega arith)
-served objects (PqTake number) room one small = (record { counter = omega (arith, small.counter); stack = small.stack; set = small.set; bag = dropped objects.bag small.bag }, number_small (least objects.bag) (got objects.bag 0 small.bag))
+served objects _ room one small = (
+  record { counter = omega (arith, small.counter); stack = search (small.stack, one, pushed, taken); set = search (small.set, one, with_key_small, without_key_small); bag = search (small.bag, one, with_item_small, dropped) },
+  search (rules, small.stack, small.set, small.bag, number_small, yes_small, got, above_small),
+)
 
 -- the objects of each number are small
 abbrev IsSmallStore : Store → ℕ → Type 0

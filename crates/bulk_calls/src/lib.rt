@@ -1,4 +1,5 @@
-//! A set of numbers whose calls carry up to 64 keys each, served in batches by ranges of keys, which threads may share.
+//! A set of numbers whose calls carry up to `MOST_BULK_KEYS` keys each, served in batches by ranges of keys, which
+//! threads may share.
 //!
 //! `BulkSet` is seen as the list of its keys. A batch is answered as if its calls had come one after another, finds
 //! first, and each call's keys one directly after another, in however many threads it is served. The distinct keys of

@@ -5,6 +5,7 @@ use Rattle.decimals.specs.Words.{number_between}
 use Rattle.bulk_calls.specs.declared.op.BulkKind.{BulkKind}
 use Rattle.bulk_calls.specs.declared.op.BulkKind.TheVariants.{Insert, Remove, Find}
 use Rattle.bulk_calls.specs.Views.{BulkView}
+use Rattle.limits.specs.declared.TheConstants.{MOST_BULK_KEYS}
 
 -- the kind of call that a word names
 abbrev pub kind_named : List ℕ → Option BulkKind
@@ -30,8 +31,9 @@ call_with None keys = None
 call_with (Some what) None = None
 call_with (Some what) (Some keys) = Some (record { kind = what; keys = keys })
 
--- the call that words spell: `insert`, `remove` or `find`, with 1 to 64 keys
+-- the call that words spell: `insert`, `remove` or `find`, with 1 to `MOST_BULK_KEYS` keys
 abbrev pub bulk_call : List (List ℕ) → Option BulkView
 bulk_call [] = None
 bulk_call (word ∷ words) =
-    if nat_le 1 (length words) && nat_le (length words) 64 then call_with (kind_named word) (keys_named words) else None
+    if nat_le 1 (length words) && nat_le (length words) MOST_BULK_KEYS then call_with (kind_named word) (keys_named words)
+    else None

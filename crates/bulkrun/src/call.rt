@@ -2,13 +2,12 @@
 ghost use Rattle.std.specs.Prelude.{◌≡◌, ◌≤◌, Some, length};
 ghost use Rattle.decimals.specs.Words.{number_between};
 ghost use Rattle.bulkrun.specs.Calls.{kind_named, keys_named, call_with, bulk_call};
+ghost use Rattle.limits.specs.declared.TheConstants.{MOST_BULK_KEYS};
 
 use batch_script::Name;
 use bulk_calls::{BulkKind, BulkOp};
 use decimals::number_between;
-
-/// The most keys of a call.
-const MOST_KEYS: usize = 64;
+use limits::MOST_BULK_KEYS;
 
 /// The key that a word spells, if it is a number below 2^32.
 fn key_in(word: &Name) -> Option<u32>
@@ -35,7 +34,7 @@ fn kind_named(word: &Name) -> Option<BulkKind>
 
 /// The call of this kind with the keys that the words spell, if each spells one.
 fn call_with(kind: BulkKind, words: &[Name]) -> Option<BulkOp>
-    requires { length words.now ≤ 64 }
+    requires { length words.now ≤ MOST_BULK_KEYS }
     ensures { result ≡ call_with (Some kind) (keys_named words.now) }
 {
     let mut call = BulkOp::new(kind);
@@ -45,12 +44,12 @@ fn call_with(kind: BulkKind, words: &[Name]) -> Option<BulkOp>
     Some(call)
 }
 
-/// The call that the words spell, if any: `insert`, `remove` or `find`, with 1 to 64 keys.
+/// The call that the words spell, if any: `insert`, `remove` or `find`, with 1 to `MOST_BULK_KEYS` keys.
 pub(crate) fn bulk_call(words: &[Name]) -> Option<BulkOp>
     ensures { result ≡ bulk_call words.now }
 {
     match words {
-        [word, keys @ ..] if !keys.is_empty() && keys.len() <= MOST_KEYS => {
+        [word, keys @ ..] if !keys.is_empty() && keys.len() <= MOST_BULK_KEYS => {
             call_with(kind_named(word)?, keys)
         }
         _ => None,

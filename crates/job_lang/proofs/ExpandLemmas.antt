@@ -11,6 +11,7 @@ pub mod Sourcing
 pub mod Before
 pub mod Listing
 pub mod Kept
+pub mod Keys
 pub mod Places
 pub mod Numbering
 pub mod Replies

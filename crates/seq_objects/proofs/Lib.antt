@@ -1,6 +1,6 @@
 pub mod Bags
 pub mod CallOrder
-mod Classes
+pub mod Classes
 pub mod Elements
 mod Kept
 pub mod Keys

@@ -1,9 +1,11 @@
 -- The table of verbs: what is looked up by a kind and a word, or by a text, and what the texts are.
 use Rattle.std.proofs.Common.{◌≡◌, ℕ, ◌<◌, Bool, true, false, ◌&&◌, Option, None, Some, List, [], ◌∷◌, length, refl, sym, ap, subst, ◌∙◌, cond, arith}
+use denote.Enum.Bare.{sameb}
 use Rattle.std.specs.List.{find, list_all}
 use Rattle.std.specs.Char.{is_ascii_lowercase}
 use Rattle.std.specs.Str.{bytes_eq}
 use Rattle.std.proofs.lemmas.Slice.Eq.{bytes_eq-Decides}
+use Rattle.seq_objects.specs.contracts.kind.Kind as kind
 use Rattle.seq_objects.specs.declared.verb.Verb.{Verb}
 use Rattle.seq_objects.specs.declared.verb.Verb.TheVariants as verb
 use Rattle.seq_objects.specs.declared.verb.VerbWord.{VerbWord}
@@ -54,6 +56,14 @@ same_self _ = refl
 
 pub same_from : (a b : Kind) → a ≡ b → same_kind a b ≡ true
 same_from a b is = subst (λ k. same_kind a k ≡ true) is (same_self a)
+
+-- the code tests kinds so
+pub same_test_of_kinds : (x y : Kind) → sameb kind.the_type x y ≡ same_kind x y
+same_test_of_kinds Counter Counter = refl
+same_test_of_kinds Stack Stack = refl
+same_test_of_kinds Tree Tree = refl
+same_test_of_kinds Queue Queue = refl
+same_test_of_kinds _ _ = refl
 
 abbrev or_of : {X : Type 0} → X → Option X → X
 or_of other None = other

@@ -16,6 +16,7 @@ use Rattle.seq_objects.specs.BatchOrder.{ComesFirst, class_of}
 use Rattle.seq_objects.specs.declared.kind.Kind.TheVariants.{Tree}
 use Rattle.seq_objects.specs.Batches.{AreInBatchOrder, AreOf, kind_of}
 use Rattle.seq_objects.specs.Serial.{of_set, after_all, replies_to_all}
+use Rattle.seq_objects.proofs.Classes.{class_grows, update_class}
 use Rattle.batched_tree.specs.Calls.{key_of}
 use Rattle.batched_tree.specs.Code.Sides.{calls_below, calls_from}
 use Rattle.batched_tree.specs.Replies.{or_beyond, reply_within, replies_within}
@@ -51,7 +52,7 @@ pub record IsLow (beyond : Option ℕ) (low high : List ℕ) (op : Op) (new : Li
   pub whole : after (of_set (low ++ high)) op ≡ of_set (new ++ high)
 
 abbrev IsBeyond : Option ℕ → List ℕ → Op → Type 0
-IsBeyond beyond high op = (beyond ≡ slice_get high 0) ⊎ (4 ≤ class_of op)
+IsBeyond beyond high op = (beyond ≡ slice_get high 0) ⊎ (update_class ≤ class_of op)
 
 -- the next key: that of the lower part, or the first of the upper part
 next_low : (key b : ℕ) (low high : List ℕ) → key < b → AllByRecursion (λ k. b ≤ k) high
@@ -100,7 +101,7 @@ high_step b low high _ is le down = absurd cc
 
 -- a query leaves the set as it is
 query_or_update : (op : Op) (set : List ℕ) → kind_of op ≡ Tree
-    → (changed op set ≡ set) ⊎ (4 ≤ class_of op)
+    → (changed op set ≡ set) ⊎ (update_class ≤ class_of op)
 query_or_update (TreeInsert number key) set is = inr (omega arith)
 query_or_update (TreeRemove number key) set is = inr (omega arith)
 query_or_update (TreeFind number key) set is = inl refl
@@ -108,14 +109,14 @@ query_or_update (TreeNext number key) set is = inl refl
 query_or_update _ set is = absurd cc
 
 abbrev pub AreUpdates : List Call → Type 0
-AreUpdates calls = AllByRecursion (λ call. 4 ≤ class_of call.op) calls
+AreUpdates calls = AllByRecursion (λ call. update_class ≤ class_of call.op) calls
 
 -- in batch order, only updates follow an update
-updates_last : (op : Op) (worker : ℕ) (calls : List Call) → 4 ≤ class_of op
+updates_last : (op : Op) (worker : ℕ) (calls : List Call) → update_class ≤ class_of op
     → AllByRecursion (λ later. ComesFirst op worker later.op later.worker) calls → AreUpdates calls
 updates_last op worker [] update later = tt
 updates_last op worker (call ∷ calls) update later =
-    let here : 4 ≤ class_of call.op = elim later.0 [ inl less ↦ omega (arith, update, less) | inr same ↦ omega (arith, update, same.0) ] in
+    let here : update_class ≤ class_of call.op = omega (arith, update, class_grows op call.op worker call.worker later.0) in
     (here, updates_last op worker calls update later.1)
 
 -- the key beyond the lower side is the first of the upper side, or only updates remain
@@ -133,9 +134,9 @@ knows_low beyond high call calls (inl is) = inl is
 knows_low beyond high call calls (inr updates) = inr updates.1
 
 knows_high : (beyond : Option ℕ) (high new : List ℕ) (op : Op) (worker : ℕ) (calls : List Call)
-    → (new ≡ high) ⊎ (4 ≤ class_of op)
+    → (new ≡ high) ⊎ (update_class ≤ class_of op)
     → AllByRecursion (λ later. ComesFirst op worker later.op later.worker) calls
-    → (beyond ≡ slice_get high 0) ⊎ ((4 ≤ class_of op) × AreUpdates calls) → Knows beyond new calls
+    → (beyond ≡ slice_get high 0) ⊎ ((update_class ≤ class_of op) × AreUpdates calls) → Knows beyond new calls
 knows_high beyond high new op worker calls change later (inr updates) = inr updates.1
 knows_high beyond high new op worker calls (inr update) later (inl is) = inr (updates_last op worker calls update later)
 knows_high beyond high new op worker calls (inl same) later (inl is) = inl (rw same is)

@@ -1,12 +1,9 @@
 -- How the code keeps the objects that leaves name.
-use Rattle.std.proofs.Common.{◌≡◌, ℕ, ◌+◌, ◌-◌, ◌<◌, ◌≤◌, inl, inr, List, [], ◌∷◌, ◌++◌, length, map, replicate, Bool, true, false, not, Option, Some, None, refl, sym, ap, ◌∙◌, subst, arith, append_assoc, append-nil, length-append}
-use Rattle.std.specs.Prelude.{◌||◌, if◌then◌else◌}
-use Rattle.std.specs.List.{list_any, position_or_len}
-use Rattle.std.proofs.lemmas.List.{map-append, length-replicate, replicate_more}
-use Rattle.indexmap.specs.IndexSet.{insert_key}
+use Rattle.std.proofs.Common.{◌≡◌, ℕ, ◌+◌, ◌-◌, ◌<◌, ◌≤◌, inl, inr, List, [], ◌∷◌, ◌++◌, length, map, replicate, Option, Some, None, refl, sym, ap, ◌∙◌, subst, arith, append_assoc, append-nil, length-append}
+use Rattle.std.proofs.lemmas.List.{length-replicate, replicate_more}
 use Rattle.job_lang.specs.declared.expand.objects.Object.{Object}
 use Rattle.job_lang.specs.declared.expand.objects.Objects.{Objects}
-use Rattle.job_lang.specs.Objects.{NamedObject, same_object, with_object, named_behind, number_among, numbers_of, names_of}
+use Rattle.job_lang.specs.Objects.{NamedObject, with_object, named_behind, number_among, numbers_of, names_of}
 use Rattle.job_lang.specs.Code.Numbered.{object_in, named_in, names_in, numbers_in, numbers_behind, AreListed, NamesBehind}
 use Rattle.job_lang.proofs.ExpandLemmas.Places.{same_numbers}
 use Rattle.job_names.specs.Names.{spelling}
@@ -38,24 +35,6 @@ at_end long at count within stays over = elim (cases_lt count long) [
 
 pub zeros_done : (numbers : List ℕ) (at count : ℕ) → at - length numbers ≡ count - length numbers → numbers ++ replicate (at - length numbers) 0 ≡ numbers ++ replicate (count - length numbers) 0
 zeros_done numbers at count e = ap (λ n. numbers ++ replicate n 0) e
-
--- the set of objects that the code keeps, where its test is that of the objects
-
-module _ (eq : Object → Object → Bool) (same : (x y : Object) → eq x y ≡ same_object (object_in x) (object_in y)) where
-  any_kept : (keys : List Object) (x : Object) → list_any (eq x) keys ≡ list_any (same_object (object_in x)) (map object_in keys)
-  any_kept [] x = refl
-  any_kept (y ∷ keys) x = (λ i. same x y i || any_kept keys x i)
-
-  pub place_kept : (keys : List Object) (x : Object) → position_or_len (eq x) keys ≡ position_or_len (same_object (object_in x)) (map object_in keys)
-  place_kept [] x = refl
-  place_kept (y ∷ keys) x = (λ i. if not (same x y i) then 1 + place_kept keys x i else 0)
-
-  kept_by : (b : Bool) (keys : List Object) (x : Object) → map object_in (if b then keys else keys ++ x ∷ []) ≡ (if b then map object_in keys else map object_in keys ++ object_in x ∷ [])
-  kept_by true keys x = refl
-  kept_by false keys x = map-append object_in keys (x ∷ [])
-
-  pub keys_kept : (keys : List Object) (x : Object) → map object_in (insert_key eq keys x) ≡ with_object (map object_in keys) (object_in x)
-  keys_kept keys x = kept_by (list_any (eq x) keys) keys x ∙ ap (λ b. if b then map object_in keys else map object_in keys ++ object_in x ∷ []) (any_kept keys x)
 
 -- one more leaf
 
@@ -118,10 +97,6 @@ names_kept objects leaves listed = ap (λ os. map (λ (object : NamedObject). sp
 pub no_names : (keys : List Object) → length keys ≡ 0 → map (λ (object : NamedObject). spelling object.name) (map object_in keys) ≡ []
 no_names [] none = refl
 no_names (key ∷ keys) none = absurd (omega (arith, none))
-
-pub spellings_kept : (keys : List Object) → map (λ name. spelling name) (map (λ (object : Object). object.name) keys) ≡ map (λ (object : NamedObject). spelling object.name) (map object_in keys)
-spellings_kept [] = refl
-spellings_kept (key ∷ keys) = ap (λ names. spelling key.name ∷ names) (spellings_kept keys)
 
 -- Where no object is named, all numbers are 0, and the acts stay.
 

@@ -2,46 +2,22 @@
 use Rattle.std.proofs.Common.{ℕ, ◌≡◌, ◌<◌, ◌≤◌, inl, inr, Bool, true, false, cond, List, [], ◌∷◌, ◌++◌, length, refl, ap, sym, subst, arith}
 use Rattle.launch_batch.proofs.Words.{AllByRecursion, Call, Reply, Store, store_replies, Kind, Counter, Stack, Tree, Queue, AreInBatchOrder, kind_of, same_kind, calls_of, replies_of, store_of_kind}
 use Rattle.seq_objects.specs.declared.op.Op.{Op}
-use Rattle.seq_objects.specs.declared.op.Op.TheVariants.{CounterAdd}
-use Rattle.seq_objects.specs.BatchOrder.{ComesFirst, class_of}
+use Rattle.seq_objects.specs.BatchOrder.{ComesFirst}
+use Rattle.seq_objects.proofs.Classes.{class_grows, turn_of, turn_grows}
 use Rattle.seq_objects.proofs.Elements.{each_so}
 use Rattle.seq_objects.proofs.Filters.{same_is}
 use Rattle.object_rows.proofs.Closing.{length_told}
 use Rattle.launch_batch.proofs.MergeLemmas.ByKind.{kind_replies}
 
--- the least and the greatest class of a kind's operations
-abbrev least : Kind → ℕ
-least Counter = 0
-least Stack = 1
-least Tree = 3
-least Queue = 5
-
-abbrev greatest : Kind → ℕ
-greatest Counter = 0
-greatest Stack = 2
-greatest Tree = 4
-greatest Queue = 6
-
-at_least : (op : Op) → least (kind_of op) ≤ class_of op
-at_least (CounterAdd number addend) = omega arith
-at_least _ = omega arith
-
-at_most : (op : Op) → class_of op ≤ greatest (kind_of op)
-at_most (CounterAdd number addend) = omega arith
-at_most _ = omega arith
-
 -- no operation of an earlier kind comes after one of a later kind
-never_after : (kind : Kind) (op : Op) (worker : ℕ) (later : Op) (of : ℕ) → greatest kind < least (kind_of op) → ComesFirst op worker later of → same_kind kind (kind_of later) ≡ false
+never_after : (kind : Kind) (op : Op) (worker : ℕ) (later : Op) (of : ℕ) → turn_of kind < turn_of (kind_of op) → ComesFirst op worker later of → same_kind kind (kind_of later) ≡ false
 never_after kind op worker later of below first = step (same_kind kind (kind_of later)) refl where
-  up : class_of op ≤ class_of later
-  up = elim first [ inl less ↦ omega (arith, less) | inr same ↦ omega (arith, same.0) ]
-
   step : (b : Bool) → same_kind kind (kind_of later) ≡ b → b ≡ false
   step false is = refl
   step true is =
-      let high : class_of later ≤ greatest kind = subst (λ k. class_of later ≤ greatest k) (same_is kind (kind_of later) is) (at_most later) in
-      let low = at_least op in
-      absurd (omega (arith, below, up, high, low))
+      let up = turn_grows op later (class_grows op later worker of first) in
+      let same = ap turn_of (same_is kind (kind_of later) is) in
+      absurd (omega (arith, below, up, same))
 
 none_of : (kind : Kind) (calls : List Call) (replies : List Reply) → AllByRecursion (λ call. same_kind kind (kind_of call.op) ≡ false) calls → replies_of kind calls replies ≡ []
 none_of kind [] replies others = refl
@@ -57,13 +33,13 @@ in_turn (call ∷ calls) [] order count = absurd (omega (arith, count))
 in_turn (call ∷ calls) (reply ∷ replies) order count =
     step (kind_of call.op) (replies_of Counter calls replies) (replies_of Stack calls replies) (replies_of Tree calls replies) (replies_of Queue calls replies)
     refl (none Counter) (none Stack) (none Tree) (in_turn calls replies order.1 (omega (arith, count))) where
-      none : (kind : Kind) → greatest kind < least (kind_of call.op) → replies_of kind calls replies ≡ []
+      none : (kind : Kind) → turn_of kind < turn_of (kind_of call.op) → replies_of kind calls replies ≡ []
       none kind below = none_of kind calls replies
           (each_so (λ (c : Call). ComesFirst call.op call.worker c.op c.worker) (λ (c : Call). same_kind kind (kind_of c.op) ≡ false)
           (λ c first. never_after kind call.op call.worker c.op c.worker below first) calls order.0)
 
       step : (k : Kind) (counters stacks trees queues : List Reply) → kind_of call.op ≡ k
-          → (greatest Counter < least (kind_of call.op) → counters ≡ []) → (greatest Stack < least (kind_of call.op) → stacks ≡ []) → (greatest Tree < least (kind_of call.op) → trees ≡ [])
+          → (turn_of Counter < turn_of (kind_of call.op) → counters ≡ []) → (turn_of Stack < turn_of (kind_of call.op) → stacks ≡ []) → (turn_of Tree < turn_of (kind_of call.op) → trees ≡ [])
           → replies ≡ counters ++ stacks ++ trees ++ queues
           → reply ∷ replies ≡ cond (same_kind Counter k) (reply ∷ counters) counters ++ cond (same_kind Stack k) (reply ∷ stacks) stacks
           ++ cond (same_kind Tree k) (reply ∷ trees) trees ++ cond (same_kind Queue k) (reply ∷ queues) queues

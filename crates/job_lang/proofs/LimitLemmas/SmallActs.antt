@@ -39,7 +39,7 @@ either_small : (b : Bool) (number : ℕ) → number < 2 ^ 32 → (if b then numb
 either_small true number small = small
 either_small false number small = omega arith
 
-number_small : (b : Bool) (number : ℕ) → number < 2 ^ 32 → IsSmall (if b then Some number else None)
+pub number_small : (b : Bool) (number : ℕ) → number < 2 ^ 32 → IsSmall (if b then Some number else None)
 number_small true number small = small
 number_small false number small = tt
 

@@ -4,8 +4,7 @@ use Rattle.std.specs.Prelude.{option_to_list}
 use Rattle.std.specs.List.{AllByRecursion}
 use Rattle.std.proofs.lemmas.List.{length-map}
 use Rattle.seq_objects.specs.declared.op.Op.{Op}
-use Rattle.seq_objects.specs.declared.op.Op.TheVariants.{Pop, PqTake}
-use Rattle.seq_objects.specs.Objects.{argument_of}
+use Rattle.seq_objects.specs.Parts.{argument_of, has_argument}
 use Rattle.sp_order.specs.Precedence.{Tree, leaf, seq, par, leaf_count}
 use Rattle.sp_order.specs.Depth.{tree_depth, depth_of}
 use Rattle.sp_order.specs.Jobs.{IsJob}
@@ -21,6 +20,7 @@ use Rattle.job_writer.proofs.GeneratorLemmas.Counts.{answers, length_pops, lengt
 use Rattle.job_writer.proofs.GeneratorLemmas.Draws.{Grows, all_grow, length_growing, first_growing}
 use Rattle.job_writer.proofs.GeneratorLemmas.Each.{each_op, each_call, all_unnamed}
 use Rattle.sp_order.proofs.ObjectLemmas.{unnamed_are_named}
+use Rattle.job_lang.proofs.LimitLemmas.SmallActs.{number_small}
 use Rattle.job_lang.proofs.EachOf.{each_of_first, each_of_rest}
 use Rattle.job_writer.proofs.WriterLemmas.Jobs.{canonical_is_job, plain_is_short, small_from}
 use Rattle.seq_objects.proofs.Elements.{each_append, each_so}
@@ -86,15 +86,10 @@ depth_few : (ops : List Op) → length ops ≤ 5000 → depth_of (job_growing_by
 depth_few ops few = omega (arith, join_depth seq (λ a b. refl) 13 (length (all_parts ops)) 2 (all_parts ops) (four_at_most ops) (all_within ops few))
 
 -- the numbers fit
-small_op : (op : Op) → argument_of op < 65536 → IsSmall (op_number op)
-small_op (Pop number) few = tt
-small_op (PqTake number) few = tt
-small_op _ few = omega (arith, few)
-
 pub all_small : (ops : List Op) → AllByRecursion Grows ops → AreSmall (calls (all_ops ops))
 all_small ops grow =
     each_call (λ act. IsSmall (act_number act)) (all_ops ops)
-    (each_op (λ op. IsSmall (op_number op)) ops (each_so Grows _ (λ op grows. small_op op grows.small) ops grow) (each_so Grows _ (λ op grows. omega (arith, grows.small)) ops grow) tt tt)
+    (each_op (λ op. IsSmall (op_number op)) ops (each_so Grows _ (λ op grows. number_small (has_argument op) (argument_of op) (omega (arith, grows.small))) ops grow) (each_so Grows _ (λ op grows. omega (arith, grows.small)) ops grow) tt tt)
 
 -- what the laws say of the generated job
 generated_is_job : (seed size : ℕ) → size ≤ 5000 → IsJob (generated seed size)

@@ -114,13 +114,10 @@ plain_grown names (lone one) good = plain_leaf names one good
 plain_grown names (series left right) good = plain_block (codes "seq { ") (text_of names left) (text_of names right) refl (plain_grown names left good.0) (plain_grown names right good.1)
 plain_grown names (parallel left right) good = plain_block (codes "par { ") (text_of names left) (text_of names right) refl (plain_grown names left good.0) (plain_grown names right good.1)
 
--- Where no object has a name, a leaf takes at most 38 bytes, 24 where it has no source and is none, and a block at most
--- 9 more; there are more leaves than blocks.
+-- Where no object has a name, a leaf takes at most 40 bytes, 26 where it has no source and is none, and a block at most
+-- 9 more; there are more leaves than blocks. The words of a kind and of a verb take at most 15 of them.
 
-short_number : (words : List ℕ) (n : ℕ) → length words ≤ 13 → n < 2 ^ 32 → length (words ++ decimal n) ≤ 23
-short_number words n few small = omega (arith, length-append words (decimal n), length-decimal-le 10 n (omega arith) (omega (arith, small)) (omega (arith, small)), few)
-
-short_verb : (op : Op) → length (kind_words (kind_of op)) + length (verb_words op) ≤ 13
+short_verb : (op : Op) → length (kind_words (kind_of op)) + length (verb_words op) ≤ 15
 short_verb (CounterAdd number addend) = omega arith
 short_verb _ = omega arith
 
@@ -128,7 +125,7 @@ short_name_words : (number : ℕ) → length (name_words [] number) ≤ 1
 short_name_words zero = omega arith
 short_name_words (suc place) = omega arith
 
-short_call : (op : Op) → length (call_words [] op) ≤ 14
+short_call : (op : Op) → length (call_words [] op) ≤ 16
 short_call op =
     omega (arith, length-append (kind_words (kind_of op)) (name_words [] (number_of op) ++ verb_words op), length-append (name_words [] (number_of op)) (verb_words op), short_verb op, short_name_words (number_of op))
 
@@ -140,14 +137,14 @@ short_source : (takes : Bool) (number source : ℕ) → source < 2 ^ 32 → leng
 short_source true number source small = let h = decimal_few source small in omega (arith, h)
 short_source false number source small = omega arith
 
-short_act : (act : Act) → IsSmall (act_number act) → length (act_text [] act None) ≤ 24
-short_act (Work steps) small = let h = short_number (codes "work ") steps (omega arith) small in omega (arith, h)
+short_act : (act : Act) → IsSmall (act_number act) → length (act_text [] act None) ≤ 26
+short_act (Work steps) small = let h = decimal_few steps small in omega (arith, h)
 short_act (Call op) small =
     omega (arith, length-append (call_words [] op) (argument_text op None), short_call op, short_value (has_argument op) (argument_of op) (small_argument op small))
 
-short_any : (act : Act) (source : Option ℕ) → IsSmall (act_number act) → IfSome source (λ source. source < 2 ^ 32) → length (act_text [] act source) ≤ 25
+short_any : (act : Act) (source : Option ℕ) → IsSmall (act_number act) → IfSome source (λ source. source < 2 ^ 32) → length (act_text [] act source) ≤ 27
 short_any act None small small' = let h = short_act act small in omega (arith, h)
-short_any (Work steps) (Some source) small small' = let h = short_number (codes "work ") steps (omega arith) small in omega (arith, h)
+short_any (Work steps) (Some source) small small' = let h = decimal_few steps small in omega (arith, h)
 short_any (Call op) (Some source) small small' =
     omega (arith, length-append (call_words [] op) (argument_text op (Some source)), short_call op, short_source (has_argument op) (argument_of op) source small')
 
@@ -160,7 +157,7 @@ short_let false number few = omega arith
 short_let true number few =
     omega (arith, length-append (name_text number) (codes " = "), length-decimal-le 5 number (omega arith) (omega (arith, few)) (omega (arith, few)))
 
-pub short_leaf : (written : WrittenLeaf) → IsSmallLeaf written → IsFew written → length (leaf_text [] written) + 9 ≤ 47
+pub short_leaf : (written : WrittenLeaf) → IsSmallLeaf written → IsFew written → length (leaf_text [] written) + 9 ≤ 49
 short_leaf written small few =
     omega (arith, length-append (let_text written.named written.number) (act_text [] written.act written.source), short_let written.named written.number few, short_any written.act written.source small.act small.source)
 
@@ -169,7 +166,7 @@ pub record IsUnnamed (written : WrittenLeaf) : Type 0 where
   pub named : written.named ≡ false
   pub source : written.source ≡ None
 
-pub plain_short : (written : WrittenLeaf) → IsSmallLeaf written → IsUnnamed written → length (leaf_text [] written) + 9 ≤ 33
+pub plain_short : (written : WrittenLeaf) → IsSmallLeaf written → IsUnnamed written → length (leaf_text [] written) + 9 ≤ 35
 plain_short written small unnamed =
     let e = ap (λ named. length (let_text named written.number ++ act_text [] written.act written.source)) unnamed.named in
     let f = ap (λ source. length (act_text [] written.act source)) unnamed.source in

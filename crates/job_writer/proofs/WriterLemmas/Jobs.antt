@@ -170,7 +170,7 @@ shape_is_short : (shape : Option Tree) (written : List WrittenLeaf) → leaf_cou
 shape_is_short None written same few small numbers = omega arith
 shape_is_short (Some tree) written same few small numbers =
     let short = each_so _ _ (λ one fits. short_leaf one fits.0 fits.1) written (each_both _ _ written small numbers) in
-    omega (arith, length-append (tree_text [] tree written) (codes "\n"), short_tree 47 tree written (sym same) short, same, few)
+    omega (arith, length-append (tree_text [] tree written) (codes "\n"), short_tree 49 tree written (sym same) short, same, few)
 
 pub canonical_is_short : (job : JobValue) → IsJob job → AreSmallLeaves (written_leaves job) → job.names ≡ [] → length (canonical_text job) < 1000000
 canonical_is_short job is_job small nameless =
@@ -200,7 +200,7 @@ shape_is_plain : (shape : Option Tree) (written : List WrittenLeaf) → leaf_cou
 shape_is_plain None written same few small unnamed = omega arith
 shape_is_plain (Some tree) written same few small unnamed =
     let short = each_so _ _ (λ one fits. plain_short one fits.0 fits.1) written (each_both _ _ written small unnamed) in
-    omega (arith, length-append (tree_text [] tree written) (codes "\n"), short_tree 33 tree written (sym same) short, same, few)
+    omega (arith, length-append (tree_text [] tree written) (codes "\n"), short_tree 35 tree written (sym same) short, same, few)
 
 pub plain_is_short : (job : JobValue) → IsJob job → AreSmallLeaves (written_leaves job) → job.names ≡ [] → HasNoSources job → length (canonical_text job) < 700000
 plain_is_short job is_job small nameless none =

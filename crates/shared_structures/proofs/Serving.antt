@@ -9,7 +9,7 @@ use Rattle.std.proofs.lemmas.List.Sorted.{IsPermutation-map, IsPermutation-sym}
 use Rattle.seq_objects.specs.declared.call.Call.{Call}
 use Rattle.seq_objects.specs.declared.op.Op.{Op}
 use Rattle.seq_objects.specs.declared.reply.Reply.{Reply}
-use Rattle.seq_objects.specs.declared.op.Op.TheVariants.{CounterAdd, Pop, PqTake}
+use Rattle.seq_objects.specs.declared.op.Op.TheVariants.{Push}
 use Rattle.seq_objects.specs.Objects.{Objects, after, number_of}
 use Rattle.seq_objects.specs.Batches.{AreOfOneNumber}
 use Rattle.seq_objects.specs.Serial as calls_of
@@ -87,10 +87,8 @@ module _ (s : Objects) (ops : List Op) (calls : List Call) (replies ordered : Li
       }
 
 asked_number : (op : Op) → IsAsked op → number_of op ≡ 0
-asked_number (CounterAdd number addend) asked = absurd asked
-asked_number (Pop number) asked = asked
-asked_number (PqTake number) asked = asked
-asked_number _ asked = asked.0
+asked_number (Push number item) asked = asked.0
+asked_number _ asked = grind arith
 
 -- what holds of all operations holds of those of all calls
 pub each_call : (P : Op → Type 0) (ops : List Op) (calls : List Call) → AllByRecursion P ops → IsPermutation ops (map op_in calls)

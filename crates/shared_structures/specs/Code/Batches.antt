@@ -3,7 +3,7 @@ use Rattle.std.specs.Prelude.{◌≡◌, ◌≢◌, ℕ, ◌+◌, ◌<◌, ◌^�
 use Rattle.std.specs.List.{AllByRecursion}
 use Rattle.shared_calls.specs.Serial.{SerialObject}
 use Rattle.seq_objects.specs.declared.op.Op.{Op}
-use Rattle.seq_objects.specs.declared.op.Op.TheVariants.{CounterAdd, Push, Pop, TreeInsert, TreeRemove, TreeFind, TreeNext, PqInsert, PqTake}
+use Rattle.seq_objects.specs.declared.op.Op.TheVariants.{Push, Pop, TreeInsert, TreeRemove, TreeFind, TreeNext, PqInsert, PqTake}
 use Rattle.seq_objects.specs.declared.call.Call.{Call}
 use Rattle.seq_objects.specs.declared.reply.Reply.{Reply}
 use Rattle.seq_objects.specs.declared.reply.Reply.TheVariants as reply
@@ -36,10 +36,9 @@ pub record HaveSmallNumbers (objects : Objects) : Type 0 where
   pub set : AreSmall objects.set
   pub bag : AreSmall objects.bag
 
--- an operation that may be served in a batch of a shared structure: it is of number 0, of no counter, and its item or key
--- has 32 bits
+-- an operation that may be served in a batch of a shared structure: it is one of a stack, of a tree or of a queue, of
+-- number 0, and its item or key has 32 bits
 abbrev pub IsAsked : Op → Type 0
-IsAsked (CounterAdd number addend) = ⊥
 IsAsked (Push number item) = (number ≡ 0) × (item < 2 ^ 32)
 IsAsked (Pop number) = number ≡ 0
 IsAsked (TreeInsert number key) = (number ≡ 0) × (key < 2 ^ 32)
@@ -48,6 +47,7 @@ IsAsked (TreeFind number key) = (number ≡ 0) × (key < 2 ^ 32)
 IsAsked (TreeNext number key) = (number ≡ 0) × (key < 2 ^ 32)
 IsAsked (PqInsert number item) = (number ≡ 0) × (item < 2 ^ 32)
 IsAsked (PqTake number) = number ≡ 0
+IsAsked _ = ⊥
 
 -- a reply whose number, if it has one, has 32 bits
 abbrev pub IsSmallReply : Reply → Type 0

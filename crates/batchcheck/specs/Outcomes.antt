@@ -33,7 +33,7 @@ pub record HasFault (held : Option (List ℕ)) (fault : JobFault) : Type 0 where
   pub why : IsFaultOf bytes fault
 
 -- Both files were read: one is a text of a job, and the other has this flaw as a report of the job. Without a flaw it is
--- the text of a lawful report of the job, which has 1 to 32 workers.
+-- the text of a lawful report of the job, which has 1 to `MOST_WORKERS` workers.
 pub record IsJudged (files : Files) (held : List ℕ → Option (List ℕ)) (flaw : Option Flaw) : Type 0 where
   pub job : JobValue
   pub has_job : HasJob (held files.job) job
@@ -88,7 +88,7 @@ pub record Holds (files : Files) (held : List ℕ → Option (List ℕ)) (job : 
   pub accepted : IsJobOf bytes job
   pub report_told : held files.report ≡ Some text
 
--- the text is that of a lawful report of the job, whose number of workers is its own and from 1 to 32
+-- the text is that of a lawful report of the job, whose number of workers is its own and from 1 to `MOST_WORKERS`
 pub record HasLawfulReport (job : JobValue) (text : List ℕ) : Type 0 where
   pub report : Report
   pub some : 1 ≤ report.workers

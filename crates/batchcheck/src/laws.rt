@@ -9,7 +9,7 @@ ghost use Rattle.batchcheck.specs.Outcomes.{HasLawfulReport};
 use job_lang::laws::{accepted_jobs_are_jobs, accepted_jobs_have_small_arguments};
 use report_check::laws::{lawful_reports_have_no_flaw, texts_have_one_flaw};
 
-/// The text of each lawful report of an accepted job has no flaw, where the report has 1 to 32 workers.
+/// The text of each lawful report of an accepted job has no flaw, where the report has 1 to `MOST_WORKERS` workers.
 pub fn lawful_texts_have_no_flaw()
     ensures { (bytes text : List ℕ) (job : JobValue) → IsJobOf bytes job → HasLawfulReport job text
         → IsFlawOf job text None }

@@ -11,9 +11,9 @@ use report_check::Flaw;
 /// Why the files were refused before the report was judged.
 #[derive(Clone, Copy)]
 pub enum CheckRefusal {
-    /// The job's file has more than 1,048,576 bytes.
+    /// The job's file has more than `MOST_JOB_BYTES` bytes.
     JobTooLong,
-    /// The report's file has more than 8,388,608 bytes.
+    /// The report's file has more than `MOST_REPORT_BYTES` bytes.
     ReportTooLong,
     /// The bytes of the job's file are not a job.
     Job(JobFault),

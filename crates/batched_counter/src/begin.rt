@@ -33,7 +33,7 @@ fn addends_of(calls: &[Call]) -> ArrayVec<u64, 2>
 }
 
 /// Cuts the calls into at most 16 pieces. Each has a sixteenth of the calls, rounded up; the last may be shorter. A
-/// batch has at most 32 calls, so a piece has at most 2.
+/// batch has at most `MOST_WORKERS` calls, so a piece has at most 2.
 pub(crate) fn pieces_of(alloc: Global, calls: &[Call]) -> Result<Vec<Piece>, AllocError>
     requires fits { total (addends calls.now) < 2 ^ 64 }
     requires some { 0 < length calls.now }

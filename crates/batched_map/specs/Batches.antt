@@ -23,7 +23,7 @@ ComesFirstOf false false first second = IsBeforeByKey (op_key first.what) first.
 abbrev pub ComesFirst : MapCall → MapCall → Type 0
 ComesFirst first second = ComesFirstOf (is_query first.what) (is_query second.what) first second
 
--- the calls are those of one batch: at most 32, in batch order, of distinct workers
+-- the calls are those of one batch: at most `MOST_WORKERS`, in batch order, of distinct workers
 pub record AreMapBatch (calls : List MapCall) : Type 0 where
   pub few : length calls ≤ MOST_WORKERS
   pub order : AllPairsByRecursion ComesFirst calls

@@ -13,7 +13,7 @@ ComesFirst (Some item) worker None worker' = ⊤
 ComesFirst None worker (Some item) worker' = ⊥
 ComesFirst None worker None worker' = worker < worker'
 
--- the calls are those of one batch: at most 32, in batch order, of distinct workers
+-- the calls are those of one batch: at most `MOST_WORKERS`, in batch order, of distinct workers
 pub record AreFifoBatch (calls : List FifoCall) : Type 0 where
   pub few : length calls ≤ MOST_WORKERS
   pub order : AllPairsByRecursion (λ first second. ComesFirst first.item first.worker second.item second.worker) calls

@@ -110,7 +110,7 @@ IsFileAssured status report held never_fails room =
     (bytes : List ℕ) (job : JobValue) → held ≡ Some bytes → length bytes ≤ MOST_JOB_BYTES → IsJobOf bytes job
     → IsTrue never_fails → TextFits job report room → IsUnlessMemory status Done
 
--- the bytes held are known, at most 1,048,576, and a text of a job
+-- the bytes held are known, at most `MOST_JOB_BYTES`, and a text of a job
 pub record HoldsJob (held : Option (List ℕ)) : Type 0 where
   pub bytes : List ℕ
   pub job : JobValue

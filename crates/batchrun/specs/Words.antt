@@ -20,7 +20,7 @@ pub data Command : Type 0 where
 abbrev pub workers_in : List ℕ → Option ℕ
 workers_in word = number_between 1 MOST_WORKERS word
 
--- the size of a generated job: 1 to 5,000
+-- the size of a generated job: 1 to `MOST_GENERATED`
 abbrev pub size_in : List ℕ → Option ℕ
 size_in word = number_between 1 MOST_GENERATED word
 

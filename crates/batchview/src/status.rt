@@ -8,7 +8,7 @@ use program_io::{End, Line, Stop};
 /// Why the file was refused.
 #[derive(Clone, Copy)]
 pub enum ViewRefusal {
-    /// The file has more than 8,388,608 bytes.
+    /// The file has more than `MOST_REPORT_BYTES` bytes.
     TooLong,
     /// The bytes of the file are not a report; this is the number of the first line that is none of a report's.
     NoReport(u32),

@@ -37,8 +37,8 @@ fn line_at(text: &[u8], place: usize) -> u32
     word.line
 }
 
-/// The line of the first word of the first top-level item with which the leaves are more than 20,000, if there is one.
-/// The words are read again only where there is one.
+/// The line of the first word of the first top-level item with which the leaves are more than `MOST_LEAVES`, if there
+/// is one. The words are read again only where there is one.
 pub(crate) fn leaves_line(text: &[u8], items: &[Item]) -> Option<u32>
     requires writes { items_words (items_of items.now) ≡ words_of (words_on_lines text.now) }
     requires short { length text.now ≤ MOST_JOB_BYTES }

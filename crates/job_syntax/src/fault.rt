@@ -15,7 +15,7 @@ pub enum JobFault {
     Number { line: u32 },
     /// A block inside as many others as may be open.
     Nesting { line: u32 },
-    /// More than 20,000 leaves.
+    /// More than `MOST_LEAVES` leaves.
     Leaves { line: u32 },
     /// An argument that does not fit 32 bits in some copy.
     Argument { line: u32 },

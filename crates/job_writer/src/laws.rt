@@ -37,8 +37,8 @@ pub fn generated_jobs_have_few_leaves()
     ensures most { (seed size : ℕ) → leaf_count (generated seed size).shape ≤ 2 * size + 2 }
 {}
 
-/// The canonical text of a generated job of size at most 5,000 is a text of this job, with less than 700,000 bytes. The
-/// job is at most 15 deep, and none of its leaves has a source, so the writer accepts it.
+/// The canonical text of a generated job of size at most `MOST_GENERATED` is a text of this job, with less than 700,000
+/// bytes. The job is at most 15 deep, and none of its leaves has a source, so the writer accepts it.
 pub fn generated_jobs_have_texts()
     ensures depth { (seed size : ℕ) → size ≤ MOST_GENERATED → depth_of (generated seed size).shape ≤ 15 }
     ensures replies { (seed size : ℕ) → TakeReplies (generated seed size).acts (generated seed size).sources }

@@ -25,7 +25,7 @@ use Rattle.limits.specs.declared.TheConstants.{MOST_OPEN_BLOCKS}
 abbrev pub asked_in : View → Asked
 asked_in view = record { file = view.file.now; form = view.form }
 
--- the canonical text of a job that is at most 32 deep
+-- the canonical text of a job that is at most `MOST_OPEN_BLOCKS` deep
 pub record IsTextOf (job : JobValue) (shown : List ℕ) : Type 0 where
   pub deep : depth_of job.shape ≤ MOST_OPEN_BLOCKS
   pub are : shown ≡ canonical_text job

@@ -19,7 +19,7 @@ use Rattle.jobview.specs.declared.status.ViewStatus.{ViewStatus}
 use Rattle.jobview.specs.declared.status.ViewStatus.TheVariants as status
 use Rattle.limits.specs.declared.TheConstants.{MOST_JOB_BYTES, MOST_OPEN_BLOCKS}
 
--- The text is one of a job that is at most 32 deep, and this is its canonical text.
+-- The text is one of a job that is at most `MOST_OPEN_BLOCKS` deep, and this is its canonical text.
 pub record IsCanonicalOf (bytes shown : List ℕ) : Type 0 where
   pub job : JobValue
   pub accepted : IsJobOf bytes job
@@ -54,7 +54,7 @@ pub record HasFault (held : Option (List ℕ)) (fault : JobFault) : Type 0 where
   pub read : WasRead MOST_JOB_BYTES held bytes
   pub why : IsFaultOf bytes fault
 
--- the text is one of a job that is more than 32 deep
+-- the text is one of a job that is more than `MOST_OPEN_BLOCKS` deep
 pub record HasDeepJob (bytes : List ℕ) : Type 0 where
   pub job : JobValue
   pub accepted : IsJobOf bytes job

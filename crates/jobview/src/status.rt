@@ -9,11 +9,11 @@ use program_io::{End, Line, Stop};
 /// Why the file was refused.
 #[derive(Clone, Copy)]
 pub enum ViewRefusal {
-    /// The file has more than 1,048,576 bytes.
+    /// The file has more than `MOST_JOB_BYTES` bytes.
     TooLong,
     /// The bytes of the file are not a job.
     Job(JobFault),
-    /// The job is too deep for a canonical text: its shape has more than 32 blocks in one another.
+    /// The job is too deep for a canonical text: its shape has more than `MOST_OPEN_BLOCKS` blocks in one another.
     TooDeep,
 }
 

@@ -1,6 +1,7 @@
 //! Generated jobs: their canonical texts, worked out by hand from the rules, and the size of the largest job.
 use crate::texts::{Size, is_told};
 use job_writer::{generate, write_job};
+use limits::MOST_GENERATED;
 use std::alloc::{AllocError, Global};
 use std::test::Fail;
 use test_rows::all_hold;
@@ -39,7 +40,7 @@ tree find 22169 } seq { stack pop seq { queue take queue take } } }\n",
 
 /// The canonical text of a generated job.
 fn text(alloc: Global, seed: u64, size: u32) -> Result<Vec<u8>, AllocError> {
-    if size < 1 || size > 5000 {
+    if size < 1 || size > MOST_GENERATED {
         return Ok(Vec::new(alloc));
     }
     let job = generate(alloc, seed, size)?;

@@ -2,7 +2,7 @@
 
 use crate::script::{Served, first_wrong};
 use bulk_calls::{BulkCall, BulkKind, BulkOp, BulkSet, Replies, in_batch_order};
-use limits::MOST_WORKERS;
+use limits::{MOST_BULK_KEYS, MOST_WORKERS};
 use std::alloc::{AllocError, Global};
 use std::test::Fail;
 use std::thread::Threads;
@@ -103,9 +103,9 @@ fn push_replies(words: &mut String, replies: &[Replies]) -> Result<(), AllocErro
     Ok(())
 }
 
-/// Adds a key to an operation that has fewer than 64.
+/// Adds a key to an operation that has fewer than `MOST_BULK_KEYS`.
 fn push_key(operation: &mut BulkOp, key: u32) {
-    if operation.keys().len() < 64 {
+    if operation.keys().len() < MOST_BULK_KEYS {
         operation.push(key);
     }
 }
@@ -166,7 +166,7 @@ fn is_one_with(replies: &[Replies], answers: &[bool]) -> bool {
 fn a_literal_call_has_its_keys_in_front(rt: HostRuntime) -> Result<(), Fail> {
     let what = BulkOp {
         kind: INSERT,
-        keys: [8; 64],
+        keys: [8; MOST_BULK_KEYS],
         count: 2,
     };
     let calls = [BulkCall { worker: 40, what }];

@@ -7,7 +7,7 @@ ghost use Rattle.shared_calls.specs.Callers.{IsServed, IsUnserved};
 ghost use Rattle.shared_calls.specs.Views.{IsNewCaller, IsCallerOf, IfRefused, IfLost, number_of_callers, number_of, made, seen, is_lost};
 ghost use Rattle.shared_calls.specs.Closing.{AreCallersOf, AreAllCalls, SomeIsLost, NoneIsLost};
 ghost use Rattle.shared_collections.specs.Bulks.{asked, bulk_set};
-ghost use Rattle.limits.specs.declared.TheConstants.{MOST_WORKERS};
+ghost use Rattle.limits.specs.declared.TheConstants.{MOST_BULK_KEYS, MOST_WORKERS};
 
 use crate::bulk::{BatchRest, BulkInPieces};
 use bulk_calls::{BulkKind, BulkOp, BulkSet, Replies};
@@ -19,8 +19,8 @@ use std::alloc::{AllocError, Global};
 use std::marker::PhantomData;
 use std::sync::Wait;
 
-/// A set of numbers below 2^32 that 1 to 32 callers share, and the board on which they hand out the pieces of its batches.
-/// A call carries up to 64 keys. Notes go by `shared`.
+/// A set of numbers below 2^32 that 1 to `MOST_WORKERS` callers share, and the board on which they hand out the pieces
+/// of its batches. A call carries up to `MOST_BULK_KEYS` keys. Notes go by `shared`.
 ///
 /// `rest` only names a type that the prover must be able to read where a thread is handed the set.
 pub struct SharedBulkSetInPieces {
@@ -78,7 +78,7 @@ impl SharedBulkSetInPieces {
         keys: &[u32],
     ) -> Result<Replies, Failed<BulkOp, Replies>>
         requires caller { IsCallerOf self.now.shared caller.old }
-        requires few { length keys.now ≤ 64 }
+        requires few { length keys.now ≤ MOST_BULK_KEYS }
         requires sound { is_lost caller.old ≡ false }
         ensures own { IsCallerOf self.now.shared caller.new × (number_of caller.new ≡ number_of caller.old) }
         ensures served { IfOk result (λ answers. IsServed bulk_set (number_of caller.old) (made caller.old) (seen caller.old) (asked BulkKind.Insert keys.now) answers (made caller.new) (seen caller.new)) }
@@ -103,7 +103,7 @@ impl SharedBulkSetInPieces {
         keys: &[u32],
     ) -> Result<Replies, Failed<BulkOp, Replies>>
         requires caller { IsCallerOf self.now.shared caller.old }
-        requires few { length keys.now ≤ 64 }
+        requires few { length keys.now ≤ MOST_BULK_KEYS }
         requires sound { is_lost caller.old ≡ false }
         ensures own { IsCallerOf self.now.shared caller.new × (number_of caller.new ≡ number_of caller.old) }
         ensures served { IfOk result (λ answers. IsServed bulk_set (number_of caller.old) (made caller.old) (seen caller.old) (asked BulkKind.Remove keys.now) answers (made caller.new) (seen caller.new)) }
@@ -128,7 +128,7 @@ impl SharedBulkSetInPieces {
         keys: &[u32],
     ) -> Result<Replies, Failed<BulkOp, Replies>>
         requires caller { IsCallerOf self.now.shared caller.old }
-        requires few { length keys.now ≤ 64 }
+        requires few { length keys.now ≤ MOST_BULK_KEYS }
         requires sound { is_lost caller.old ≡ false }
         ensures own { IsCallerOf self.now.shared caller.new × (number_of caller.new ≡ number_of caller.old) }
         ensures served { IfOk result (λ answers. IsServed bulk_set (number_of caller.old) (made caller.old) (seen caller.old) (asked BulkKind.Find keys.now) answers (made caller.new) (seen caller.new)) }

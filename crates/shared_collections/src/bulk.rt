@@ -5,7 +5,7 @@ ghost use Rattle.bulk_calls.specs.Bulk.{bulk_after, bulk_replies, operations};
 ghost use Rattle.bulk_calls.specs.Batches.{in_batch_order};
 ghost use Rattle.shared_calls.specs.Serial.{IsServedInSomeOrder};
 ghost use Rattle.shared_collections.specs.Bulks.{asked, bulk_set};
-ghost use Rattle.limits.specs.declared.TheConstants.{MOST_WORKERS};
+ghost use Rattle.limits.specs.declared.TheConstants.{MOST_BULK_KEYS, MOST_WORKERS};
 
 use bulk_calls::{BulkCall, BulkKind, BulkOp, BulkSet, Replies, in_batch_order};
 use reply_order::in_call_order;
@@ -22,7 +22,7 @@ pub struct Bulk {
 ///
 /// Memory: none.
 pub fn asked(kind: BulkKind, keys: &[u32]) -> BulkOp
-    requires { length keys.now ≤ 64 }
+    requires { length keys.now ≤ MOST_BULK_KEYS }
     ensures { result ≡ asked kind keys.now }
 {
     let mut op = BulkOp::new(kind);

@@ -5,7 +5,7 @@ ghost use Rattle.shared_calls.specs.Callers.{IsServed, IsUnserved};
 ghost use Rattle.shared_calls.specs.Views.{AreNewCallers, IsCallerOf, IfRefused, IfLost, number_of_callers, number_of, made, seen, is_lost};
 ghost use Rattle.shared_calls.specs.Closing.{AreCallersOf, AreAllCalls, SomeIsLost, NoneIsLost};
 ghost use Rattle.shared_collections.specs.Bulks.{asked, bulk_set};
-ghost use Rattle.limits.specs.declared.TheConstants.{MOST_WORKERS};
+ghost use Rattle.limits.specs.declared.TheConstants.{MOST_BULK_KEYS, MOST_WORKERS};
 
 use crate::bulk::{Bulk, asked};
 use bulk_calls::{BulkKind, BulkOp, BulkSet, Replies};
@@ -13,7 +13,8 @@ use shared_calls::{Caller, Failed, Shared};
 use std::alloc::{AllocError, Global};
 use std::sync::Wait;
 
-/// A set of numbers below 2^32 that 1 to 32 callers share. A call carries up to 64 keys. Notes go by its field.
+/// A set of numbers below 2^32 that 1 to `MOST_WORKERS` callers share. A call carries up to `MOST_BULK_KEYS` keys.
+/// Notes go by its field.
 pub struct SharedBulkSet {
     pub shared: Shared<Bulk>,
 }
@@ -52,7 +53,7 @@ impl SharedBulkSet {
         keys: &[u32],
     ) -> Result<Replies, Failed<BulkOp, Replies>>
         requires caller { IsCallerOf self.now.shared caller.old }
-        requires few { length keys.now ≤ 64 }
+        requires few { length keys.now ≤ MOST_BULK_KEYS }
         requires sound { is_lost caller.old ≡ false }
         ensures own { IsCallerOf self.now.shared caller.new × (number_of caller.new ≡ number_of caller.old) }
         ensures served { IfOk result (λ answers. IsServed bulk_set (number_of caller.old) (made caller.old) (seen caller.old) (asked BulkKind.Insert keys.now) answers (made caller.new) (seen caller.new)) }
@@ -75,7 +76,7 @@ impl SharedBulkSet {
         keys: &[u32],
     ) -> Result<Replies, Failed<BulkOp, Replies>>
         requires caller { IsCallerOf self.now.shared caller.old }
-        requires few { length keys.now ≤ 64 }
+        requires few { length keys.now ≤ MOST_BULK_KEYS }
         requires sound { is_lost caller.old ≡ false }
         ensures own { IsCallerOf self.now.shared caller.new × (number_of caller.new ≡ number_of caller.old) }
         ensures served { IfOk result (λ answers. IsServed bulk_set (number_of caller.old) (made caller.old) (seen caller.old) (asked BulkKind.Remove keys.now) answers (made caller.new) (seen caller.new)) }
@@ -98,7 +99,7 @@ impl SharedBulkSet {
         keys: &[u32],
     ) -> Result<Replies, Failed<BulkOp, Replies>>
         requires caller { IsCallerOf self.now.shared caller.old }
-        requires few { length keys.now ≤ 64 }
+        requires few { length keys.now ≤ MOST_BULK_KEYS }
         requires sound { is_lost caller.old ≡ false }
         ensures own { IsCallerOf self.now.shared caller.new × (number_of caller.new ≡ number_of caller.old) }
         ensures served { IfOk result (λ answers. IsServed bulk_set (number_of caller.old) (made caller.old) (seen caller.old) (asked BulkKind.Find keys.now) answers (made caller.new) (seen caller.new)) }

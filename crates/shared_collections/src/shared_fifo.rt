@@ -13,7 +13,7 @@ use shared_calls::{Caller, Failed, Shared};
 use std::alloc::{AllocError, Global};
 use std::sync::Wait;
 
-/// A FIFO queue of numbers below 2^32 that 1 to 32 callers share. Notes go by its field.
+/// A FIFO queue of numbers below 2^32 that 1 to `MOST_WORKERS` callers share. Notes go by its field.
 pub struct SharedFifo {
     pub shared: Shared<Fifo>,
 }

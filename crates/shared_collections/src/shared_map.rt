@@ -13,7 +13,8 @@ use shared_calls::{Caller, Failed, Shared};
 use std::alloc::{AllocError, Global};
 use std::sync::Wait;
 
-/// A map with rank and select, of keys and values below 2^32, that 1 to 32 callers share. Notes go by its field.
+/// A map with rank and select, of keys and values below 2^32, that 1 to `MOST_WORKERS` callers share. Notes go by its
+/// field.
 pub struct SharedMap {
     pub shared: Shared<RankedMap>,
 }

@@ -44,7 +44,7 @@ impl Combined for Counter {
     }
 }
 
-/// A counter that 1 to 32 callers share. Notes go by its field.
+/// A counter that 1 to `MOST_WORKERS` callers share. Notes go by its field.
 pub struct SharedCounter {
     pub shared: Shared<Counter>,
 }

@@ -92,7 +92,7 @@ impl Combined for CombinedQueue {
     }
 }
 
-/// A priority queue that 1 to 32 callers share. Notes go by its field.
+/// A priority queue that 1 to `MOST_WORKERS` callers share. Notes go by its field.
 pub struct SharedQueue {
     pub shared: Shared<CombinedQueue>,
 }

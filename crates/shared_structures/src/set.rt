@@ -99,7 +99,7 @@ impl Combined for CombinedSet {
     }
 }
 
-/// An ordered set that 1 to 32 callers share. Notes go by its field.
+/// An ordered set that 1 to `MOST_WORKERS` callers share. Notes go by its field.
 pub struct SharedSet {
     pub shared: Shared<CombinedSet>,
 }

@@ -92,7 +92,7 @@ impl Combined for CombinedStack {
     }
 }
 
-/// A stack that 1 to 32 callers share. Notes go by its field.
+/// A stack that 1 to `MOST_WORKERS` callers share. Notes go by its field.
 pub struct SharedStack {
     pub shared: Shared<CombinedStack>,
 }

@@ -2,6 +2,7 @@
 ghost use Rattle.std.specs.Prelude.{◌≡◌, ◌≤◌, length, IfOk, IsSome};
 ghost use Rattle.core_table.specs.Passes.{job_in, IsPassOf};
 ghost use Rattle.worker_crew.specs.Workers.{IsReady};
+ghost use Rattle.limits.specs.declared.TheConstants.{MOST_JOB_BYTES};
 
 use crate::workers::{Made, Plan, Team};
 use batch_history::Report;
@@ -137,7 +138,7 @@ pub(crate) fn run_text<R: Threads + Wait + Sync, G: Pause + Sync>(
     calls: usize,
     pause: &G,
 ) -> Result<Option<Ran>, AllocError>
-    requires { length text.now ≤ 1048576 }
+    requires { length text.now ≤ MOST_JOB_BYTES }
 {
     match read_job(alloc, text) {
         Ok(job) if job.shape().is_some() => run_both(rt, alloc, &job, calls, pause),

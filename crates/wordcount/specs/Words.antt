@@ -11,7 +11,7 @@ use Rattle.decimals.specs.Words.{is_number_between}
 abbrev pub named_file : List ℕ → Option (List ℕ)
 named_file file = if bytes_eq file [] || starts_with nat_eq file (codes "--") then None else Some file
 
--- the file that the words name, if there are two words, and the second is a decimal from 1 to 32
+-- the file that the words name, if there are two words, and the second is a decimal from 1 to `MOST_WORKERS`
 abbrev pub file_of : List (List ℕ) → Option (List ℕ)
 file_of (file ∷ threads ∷ []) = if is_number_between 1 MOST_WORKERS threads then named_file file else None
 file_of _ = None

@@ -16,7 +16,7 @@ pub(crate) struct Count<'a> {
 }
 
 /// The file and the threads that the words name, if they are a word that is not empty and does not begin with `--`, and
-/// a decimal from 1 to 32.
+/// a decimal from 1 to `MOST_WORKERS`.
 pub(crate) fn count_in(words: &[String]) -> Option<Count<'_>>
     ensures file { option_map file_in result ≡ file_of (spelled words.now) }
     ensures threads { IfSome result (λ count. (1 ≤ count.threads) × (count.threads ≤ MOST_WORKERS)) }
